@@ -1,0 +1,8 @@
+pub mod Bits
+pub mod Every
+pub mod Tests
+pub mod Xor
+pub mod Pack
+pub mod Columns
+pub mod Distance
+pub mod Masks

@@ -1,0 +1,86 @@
+-- Laws. Bits as one number and back.
+use mathlib.Core.Path.{_≡_, refl, sym, ap, ap₂, _∙_}
+use Prim.Native.Nat.{ℕ, zero, suc, _+_, _-_, _*_, _/_, _^_, _%_, _<_, _≤_}
+use native.Mathlib.Nat.{pow-suc}
+use native.Mathlib.Numerals.{add-one}
+use native.Mathlib.Omega.{arith}
+use native.Mathlib.Decide.{ℕ-discrete}
+use lib.Bits.{bitXor, xor-block}
+use lib.Pow.{shr-shr, pow-mono}
+use Rattle.bits.specs.Bits.{_⊕_, Bits, Same, xor, pack, unpack}
+use Rattle.bits.specs.Xor.{xor-bit}
+
+pub pack-lt : (n : ℕ) (u : Bits) → pack n u < 2 ^ n
+unfolding pack
+pack-lt zero u = omega arith
+pack-lt (suc n) u = omega (arith, pack-lt n u, pow-suc 2 n)
+
+-- one bit more, and room for it below 2 ^ m
+pub pack-more : (n : ℕ) (u : Bits) → pack (n + 1) u ≡ pack n u * 2 + u n % 2
+unfolding pack
+pack-more n u = ap (λ (m : ℕ). pack m u) (add-one n)
+
+pub pack-room : (m n : ℕ) (u : Bits) → n < m → pack n u * 2 + 1 < 2 ^ m
+pack-room m n u h = let l : 2 ^ suc n ≤ 2 ^ m = pow-mono h in omega (arith, pack-lt n u, pow-suc 2 n)
+
+pub pack-same : (n : ℕ) (u v : Bits) → Same n u v → pack n u ≡ pack n v
+unfolding pack
+pack-same zero u v h = refl
+pack-same (suc n) u v h = ap₂ (λ (x y : ℕ). x * 2 + y) (pack-same n u v (λ j l. h j (omega arith))) (h n (omega arith))
+
+pub pack-xor : (n : ℕ) (u v : Bits) → pack n (xor u v) ≡ bitXor (pack n u) (pack n v)
+unfolding pack
+pack-xor zero u v = refl
+pack-xor (suc n) u v =
+    ap₂ (λ (x y : ℕ). x * 2 + y) (pack-xor n u v) (odd (u n) (v n) ∙ sym (xor-bit (u n % 2) (v n % 2) (omega arith) (omega arith)))
+    ∙ sym (xor-block 1 (pack n u) (pack n v) (u n % 2) (v n % 2) (omega arith) (omega arith))
+  where
+    odd : (a b : ℕ) → (a ⊕ b) % 2 ≡ a % 2 ⊕ b % 2
+    odd a b = omega arith
+
+pub pack-zero : (n : ℕ) (u : Bits) → pack n u ≡ 0 → (j : ℕ) → j < n → u j % 2 ≡ 0
+unfolding pack
+pack-zero zero u e j h = absurd (omega arith)
+pack-zero (suc n) u e j h = go (ℕ-discrete j n) (pack-zero n u (omega arith) j)
+  where
+    go : Dec (j ≡ n) → (j < n → u j % 2 ≡ 0) → u j % 2 ≡ 0
+    go (yes q) ih = rw q (omega arith)
+    go (no q) ih = ih (omega arith)
+
+-- ---- each undoes the other
+
+-- the digits but the lowest are those of the half
+unpack-half : (n x j : ℕ) → j < n → unpack (suc n) x j ≡ unpack n (x / 2) j
+unfolding unpack
+unpack-half n x j h = ap (λ (e : ℕ). x / 2 ^ e % 2) (omega arith) ∙ ap (λ (y : ℕ). y % 2) (sym (shr-shr x 1 (n - 1 - j)))
+
+unpack-last : (n x : ℕ) → unpack (suc n) x n ≡ x % 2
+unfolding unpack
+unpack-last n x = ap (λ (e : ℕ). x / 2 ^ e % 2) (none n) ∙ omega arith
+  where
+    none : (n : ℕ) → suc n - 1 - n ≡ 0
+    none n = omega arith
+
+pub unpack-pack : (n : ℕ) (u : Bits) (j : ℕ) → j < n → unpack n (pack n u) j ≡ u j % 2
+unfolding pack
+unpack-pack zero u j h = absurd (omega arith)
+unpack-pack (suc n) u j h = go (ℕ-discrete j n) (unpack-pack n u j)
+  where
+    half : (x b : ℕ) → b < 2 → (x * 2 + b) / 2 ≡ x
+    half x b l = omega arith
+
+    go : Dec (j ≡ n) → (j < n → unpack n (pack n u) j ≡ u j % 2) → unpack (suc n) (pack n u * 2 + u n % 2) j ≡ u j % 2
+    go (yes e) ih = rw (e, unpack-last) (omega arith)
+    go (no e) ih =
+        unpack-half n (pack n u * 2 + u n % 2) j (omega arith)
+        ∙ ap (λ (x : ℕ). unpack n x j) (half (pack n u) (u n % 2) (omega arith)) ∙ ih (omega arith)
+
+pub pack-unpack : (n x : ℕ) → x < 2 ^ n → pack n (unpack n x) ≡ x
+unfolding pack
+pack-unpack zero x h = omega arith
+pack-unpack (suc n) x h =
+    ap₂ (λ (y z : ℕ). y * 2 + z % 2)
+    (pack-same n (unpack (suc n) x) (unpack n (x / 2)) (λ j l. ap (λ (y : ℕ). y % 2) (unpack-half n x j l))
+    ∙ pack-unpack n (x / 2) (omega (arith, pow-suc 2 n)))
+    (unpack-last n x)
+    ∙ omega arith

@@ -1,0 +1,35 @@
+-- Definitions. The word for a pair and 24 source bits, and the two fillers that give a word a wanted ending.
+use mathlib.Core.Path.{_≡_}
+use mathlib.Core.Bool.{cond}
+use Prim.Native.Nat.{ℕ, zero, suc, _-_, _≤_}
+use lib.Dec.{eqb, ltb}
+use Rattle.bits.specs.Bits.{_⊕_, Bits}
+use Rattle.parity.specs.Table.{line}
+use Rattle.parity.specs.Word.{Window, receivedBit, sourceBit, parityBit}
+
+-- w has the pair p, q and the source bits s; source bit i, 1 to 24, is s i
+pub record Carries (p q : ℕ) (s : Bits) (w : Window) : Type 0 where
+  pub first : w 0 ≡ p
+  pub second : w 1 ≡ q
+  pub source : (i : ℕ) → 1 ≤ i → i ≤ 24 → sourceBit w i ≡ s i
+
+-- the pair p, q and the source bits s as they are sent, each exclusive-or q
+unfoldable pub dataBits : ℕ → ℕ → Bits → Window
+dataBits p q s zero = p
+dataBits p q s (suc zero) = q
+dataBits p q s (suc (suc i)) = s (suc i) ⊕ q
+
+-- those, with bits 25 to 30 as the table says
+unfoldable pub encode : ℕ → ℕ → Bits → Window
+encode p q s j = cond (ltb j 26) (dataBits p q s j) (parityBit (dataBits p q s) (line (j - 26)))
+
+-- the source bits s, with x and y for the fillers, bits 23 and 24
+unfoldable pub withFillers : Bits → ℕ → ℕ → Bits
+withFillers s x y i = cond (eqb i 23) x (cond (eqb i 24) y (s i))
+
+-- The fillers that end the word with a and b: bit 24 stands in equations 29 and 30, bit 23 in equation 30 alone.
+unfoldable pub filler24 : ℕ → ℕ → Bits → ℕ → ℕ
+filler24 p q s a = receivedBit (encode p q (withFillers s 0 0)) 29 ⊕ a
+
+unfoldable pub filler23 : ℕ → ℕ → Bits → ℕ → ℕ → ℕ
+filler23 p q s a b = (receivedBit (encode p q (withFillers s 0 0)) 30 ⊕ b) ⊕ filler24 p q s a

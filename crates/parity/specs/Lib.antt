@@ -1,0 +1,12 @@
+pub mod Table
+pub mod Word
+pub mod Encode
+pub mod Linear
+pub mod Local
+pub mod Equations
+pub mod Inverse
+pub mod Flips
+pub mod OneWord
+pub mod Fillers
+pub mod Examples
+pub mod ExamplesHold

@@ -1,0 +1,98 @@
+-- Laws. The parity bits depend on the pair and the 24 source bits alone, and the syndrome on the window's 32 bits alone.
+use mathlib.Core.Path.{_≡_, refl, sym, ap, ap₂, _∙_}
+use mathlib.Core.Bool.{Bool, true, _&&_}
+use mathlib.Core.List.{List, [], _∷_}
+use Prim.Native.Nat.{ℕ, suc, _+_, _%_, _<_, _≤_}
+use native.Mathlib.Omega.{arith}
+use lib.Dec.{T, eqb, leb, lit<, eqb→eq, leb→le}
+use Rattle.bits.specs.Bits.{_⊕_, Same, pack, unpack}
+use Rattle.bits.specs.Every.{everyBelow}
+use Rattle.bits.specs.Tests.{and-left, and-right, everyBelow-at}
+use Rattle.bits.specs.Xor.{odd-only}
+use Rattle.bits.specs.Pack.{pack-same, unpack-pack}
+use Rattle.parity.specs.Table.{PairBit, P, Q, table, line}
+use Rattle.parity.specs.Word.{Window, pairBit, receivedBit, sourceBit, sourceSum, parityBit, failure, syndrome, passes}
+
+-- ---- the shape of the table
+
+-- the numbers are 1 to 24
+sourceNumbers : List ℕ → Bool
+sourceNumbers [] = true
+sourceNumbers (i ∷ is) = (leb 1 i && leb i 24) && sourceNumbers is
+
+-- line k gives bit 25 + k from source bits
+wellFormed : ℕ → Bool
+wellFormed k = eqb (line k .bit) (25 + k) && sourceNumbers (line k .source)
+
+line-wellFormed : (k : ℕ) → k < 6 → T (wellFormed k)
+unfolding everyBelow wellFormed sourceNumbers line table
+line-wellFormed = everyBelow-at 6 wellFormed tt
+
+pub line-bit : (k : ℕ) → k < 6 → line k .bit ≡ 25 + k
+unfolding wellFormed
+line-bit k h = eqb→eq (line k .bit) (25 + k) (and-left (eqb (line k .bit) (25 + k)) (sourceNumbers (line k .source)) (line-wellFormed k h))
+
+line-source : (k : ℕ) → k < 6 → T (sourceNumbers (line k .source))
+unfolding wellFormed
+line-source k h = and-right (eqb (line k .bit) (25 + k)) (sourceNumbers (line k .source)) (line-wellFormed k h)
+
+-- ---- the pair and the source bits
+
+-- two windows have the same pair and the same source bits
+pub record Agree (u v : Window) : Type 0 where
+  pub p : u 0 % 2 ≡ v 0 % 2
+  pub q : u 1 % 2 ≡ v 1 % 2
+  pub source : (i : ℕ) → 1 ≤ i → i ≤ 24 → sourceBit u i ≡ sourceBit v i
+
+module _ (u v : Window) (agree : Agree u v) where
+  pairBit-agree : (p : PairBit) → pairBit u p % 2 ≡ pairBit v p % 2
+  pairBit-agree P = agree .p
+  pairBit-agree Q = agree .q
+
+  sourceSum-agree : (is : List ℕ) → T (sourceNumbers is) → sourceSum u is ≡ sourceSum v is
+  unfolding sourceSum sourceNumbers
+  sourceSum-agree [] t = refl
+  sourceSum-agree (i ∷ is) t =
+      let r : T (leb 1 i && leb i 24) = and-left (leb 1 i && leb i 24) (sourceNumbers is) t in
+      ap₂ _⊕_
+      (agree .source i (leb→le 1 i (and-left (leb 1 i) (leb i 24) r)) (leb→le i 24 (and-right (leb 1 i) (leb i 24) r)))
+      (sourceSum-agree is (and-right (leb 1 i && leb i 24) (sourceNumbers is) t))
+
+  pub parityBit-agree : (k : ℕ) → k < 6 → parityBit u (line k) ≡ parityBit v (line k)
+  unfolding parityBit
+  parityBit-agree k h =
+      odd-only (pairBit u (line k .pair)) (pairBit v (line k .pair)) (sourceSum u (line k .source)) (sourceSum v (line k .source))
+      (pairBit-agree (line k .pair)) (ap (λ (x : ℕ). x % 2) (sourceSum-agree (line k .source) (line-source k h)))
+
+-- ---- the 32 bits
+
+module _ (u v : Window) (same : Same 32 u v) where
+  same-agree : Agree u v
+  unfolding sourceBit
+  same-agree =
+      record {
+        p = same 0 (lit< tt);
+        q = same 1 (lit< tt);
+        source = λ i l h. omega (arith, same (suc i) (omega arith), same 1 (lit< tt));
+      }
+
+  pub parityBit-local : (k : ℕ) → k < 6 → parityBit u (line k) ≡ parityBit v (line k)
+  parityBit-local = parityBit-agree u v same-agree
+
+  pub failure-local : (k : ℕ) → k < 6 → failure u (line k) ≡ failure v (line k)
+  unfolding failure
+  failure-local k h =
+      odd-only (receivedBit u (line k .bit)) (receivedBit v (line k .bit)) (parityBit u (line k)) (parityBit v (line k))
+      (same (suc (line k .bit)) (omega (arith, line-bit k h))) (ap (λ (x : ℕ). x % 2) (parityBit-local k h))
+
+  pub syndrome-local : syndrome u ≡ syndrome v
+  unfolding syndrome
+  syndrome-local = pack-same 6 (λ k. failure u (line k)) (λ k. failure v (line k)) (λ k h. ap (λ (x : ℕ). x % 2) (failure-local k h))
+
+  pub passes-local : passes u ≡ passes v
+  unfolding passes
+  passes-local = ap (λ (x : ℕ). eqb x 0) syndrome-local
+
+-- the window may be packed first
+pub passes-packed : (w : Window) → passes (unpack 32 (pack 32 w)) ≡ passes w
+passes-packed w = passes-local (unpack 32 (pack 32 w)) w (λ j h. rw (unpack-pack 32 w j h) (omega arith))

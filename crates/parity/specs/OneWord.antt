@@ -1,0 +1,123 @@
+-- Laws. For a pair and 24 source bits exactly one word passes: the encoded one. With the pair inverted it is the inverse.
+use mathlib.Core.Path.{_≡_, refl, sym, ap, ap₂, _∙_, subst}
+use mathlib.Core.Bool.{true}
+use Prim.Native.Nat.{ℕ, zero, suc, _+_, _-_, _%_, _<_, _≤_}
+use native.Mathlib.Omega.{arith}
+use native.Mathlib.Decide.{decLt}
+use borrow.Author.Tests.{lt-ltb, le-ltb}
+use lib.Dec.{lit<}
+use Rattle.bits.specs.Bits.{_⊕_, Bits, AreBits, inverse}
+use Rattle.parity.specs.Table.{line}
+use Rattle.parity.specs.Word.{Window, receivedBit, sourceBit, parityBit, failure, passes}
+use Rattle.parity.specs.Encode.{Carries, dataBits, encode}
+use Rattle.parity.specs.Local.{Agree, line-bit, parityBit-agree}
+use Rattle.parity.specs.Equations.{syndrome-zero, passes-syndrome, equations}
+use Rattle.parity.specs.Inverse.{passes-inverse, sourceBit-inverse}
+
+-- ---- the parts of the encoded word
+
+module _ (p q : ℕ) (s : Bits) where
+  encode-data : (j : ℕ) → j < 26 → encode p q s j ≡ dataBits p q s j
+  unfolding encode
+  encode-data j h = rw (lt-ltb j 26 h)
+
+  pub encode-parity : (k : ℕ) → encode p q s (26 + k) ≡ parityBit (dataBits p q s) (line k)
+  unfolding encode
+  encode-parity k = rw (le-ltb (26 + k) 26 (omega arith)) (ap (λ (n : ℕ). parityBit (dataBits p q s) (line n)) (omega arith))
+
+  encode-agree : Agree (encode p q s) (dataBits p q s)
+  unfolding sourceBit
+  encode-agree =
+      record {
+        p = ap (λ (x : ℕ). x % 2) (encode-data 0 (lit< tt));
+        q = ap (λ (x : ℕ). x % 2) (encode-data 1 (lit< tt));
+        source = λ i l h. ap₂ _⊕_ (encode-data (suc i) (omega arith)) (encode-data 1 (lit< tt));
+      }
+
+  -- ---- it passes
+
+  pub encode-passes : passes (encode p q s) ≡ true
+  unfolding failure
+  encode-passes = passes-syndrome (encode p q s) .1 (syndrome-zero (encode p q s) .1 none)
+    where
+      twice : (x : ℕ) → x ⊕ x ≡ 0
+      twice x = omega arith
+
+      none : (k : ℕ) → k < 6 → failure (encode p q s) (line k) ≡ 0
+      none k h =
+          ap₂ _⊕_ (ap (encode p q s) (ap suc (line-bit k h) ∙ omega arith) ∙ encode-parity k)
+          (parityBit-agree (encode p q s) (dataBits p q s) encode-agree k h)
+          ∙ twice (parityBit (dataBits p q s) (line k))
+
+module _ (p q : ℕ) (s : Bits) (bp : p < 2) (bq : q < 2) (bs : (i : ℕ) → 1 ≤ i → i ≤ 24 → s i < 2) where
+  -- ---- it is a word of bits that has the pair and the source bits
+
+  pub encode-bits : AreBits 32 (encode p q s)
+  unfolding dataBits parityBit
+  encode-bits zero h = rw (encode-data p q s 0 (lit< tt)) bp
+  encode-bits (suc zero) h = rw (encode-data p q s 1 (lit< tt)) bq
+  encode-bits (suc (suc i)) h = go (decLt (suc (suc i)) 26)
+    where
+      go : Dec (suc (suc i) < 26) → encode p q s (suc (suc i)) < 2
+      go (yes l) = rw (encode-data p q s (suc (suc i)) l) (omega arith)
+      go (no l) =
+          let at : 26 + (i - 24) ≡ suc (suc i) = omega arith in
+          subst (λ (j : ℕ). encode p q s j < 2) at (rw (encode-parity p q s (i - 24)) (omega arith))
+
+  pub encode-carries : Carries p q s (encode p q s)
+  unfolding sourceBit dataBits
+  encode-carries = record { first = encode-data p q s 0 (lit< tt); second = encode-data p q s 1 (lit< tt); source = back }
+    where
+      undone : (x y : ℕ) → x < 2 → (x ⊕ y) ⊕ y ≡ x
+      undone x y h = omega arith
+
+      back : (i : ℕ) → 1 ≤ i → i ≤ 24 → sourceBit (encode p q s) i ≡ s i
+      back zero l h = absurd (omega arith)
+      back (suc i) l h =
+          ap₂ _⊕_ (encode-data p q s (suc (suc i)) (omega arith)) (encode-data p q s 1 (lit< tt)) ∙ undone (s (suc i)) q (bs (suc i) l h)
+
+  -- ---- and no other passes
+
+  pub encode-only : (w : Window) → AreBits 32 w → passes w ≡ true → Carries p q s w → (j : ℕ) → j < 32 → w j ≡ encode p q s j
+  unfolding sourceBit dataBits
+  encode-only w bits t has j h = go j h (decLt j 26)
+    where
+      agree : Agree w (dataBits p q s)
+      agree =
+          record {
+            p = ap (λ (x : ℕ). x % 2) (has .first);
+            q = ap (λ (x : ℕ). x % 2) (has .second);
+            source = λ i l m. has .source i l m ∙ sym (encode-carries .source i l m) ∙ encode-agree p q s .source i l m;
+          }
+
+      data-same : (j : ℕ) → j < 26 → w j ≡ dataBits p q s j
+      data-same zero l = has .first
+      data-same (suc zero) l = has .second
+      data-same (suc (suc i)) l = omega (arith, has .source (suc i) (omega arith) (omega arith), has .second, bits (suc (suc i)) (omega arith))
+
+      parity-same : (k : ℕ) → k < 6 → w (26 + k) ≡ encode p q s (26 + k)
+      parity-same k l =
+          ap w (omega (arith, line-bit k l)) ∙ equations w bits .0 (passes-syndrome w .0 t) k l ∙ parityBit-agree w (dataBits p q s) agree k l
+          ∙ sym (encode-parity p q s k)
+
+      go : (j : ℕ) → j < 32 → Dec (j < 26) → w j ≡ encode p q s j
+      go j h (yes l) = data-same j l ∙ sym (encode-data p q s j l)
+      go j h (no l) =
+          let at : 26 + (j - 26) ≡ j = omega arith in
+          subst (λ (i : ℕ). w i ≡ encode p q s i) at (parity-same (j - 26) (omega arith))
+
+-- ---- the inverse
+
+pub encode-inverse : (p q : ℕ) (s : Bits) → p < 2 → q < 2 → ((i : ℕ) → 1 ≤ i → i ≤ 24 → s i < 2)
+    → (j : ℕ) → j < 32 → inverse (encode p q s) j ≡ encode (p ⊕ 1) (q ⊕ 1) s j
+encode-inverse p q s bp bq bs =
+    encode-only (p ⊕ 1) (q ⊕ 1) s (omega arith) (omega arith) bs (inverse (encode p q s)) (λ j h. omega arith)
+    (passes-inverse (encode p q s) ∙ encode-passes p q s)
+    (record {
+      first = ap (λ (x : ℕ). x ⊕ 1) (has .first);
+      second = ap (λ (x : ℕ). x ⊕ 1) (has .second);
+      source = λ i l h. sourceBit-inverse (encode p q s) i ∙ has .source i l h;
+    })
+  where
+    has : Carries p q s (encode p q s)
+    has = encode-carries p q s bp bq bs

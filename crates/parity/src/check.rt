@@ -1,0 +1,40 @@
+// The parity check of a word.
+ghost use mathlib.Core.Path.{_≡_};
+ghost use Prim.Native.Nat.{_<_};
+ghost use Rattle.bits.specs.Bits.{unpack};
+ghost use Rattle.parity.specs.Table.{line};
+ghost use Rattle.parity.specs.Word.{failure, passes};
+
+// The lines of the parity table as masks of a packed window: P highest, then Q, then bits 1 to 30.
+// A mask has the bits whose exclusive-or is 0 where the equation holds. As each source bit is a received bit
+// exclusive-or Q, Q stands in a mask where the line names it an odd number of times.
+const EQUATIONS: [u32; 6] = [
+    0xbb1f34a0,
+    0x5d8f9a50,
+    0xaec7cd08,
+    0x5763e684,
+    0x2bb1f342,
+    0xcb7a89c1,
+];
+
+// 1 where the equation in line k fails, else 0.
+fn equation_failure(window: u32, k: usize) -> u32
+    requires { ⌜ k < 6 ⌝ }
+    ensures { λ r. ⌜ r ≡ failure (unpack 32 window) (line k) ⌝ }
+{
+    u32::count_ones(window & EQUATIONS[k]) % 2
+}
+
+// Whether the word of a packed window passes the parity table.
+pub fn word_passes(window: u32) -> bool
+    ensures { λ r. ⌜ r ≡ passes (unpack 32 window) ⌝ }
+{
+    let mut k: usize = 0;
+    while k < 6 {
+        if equation_failure(window, k) != 0 {
+            return false;
+        }
+        k += 1;
+    }
+    true
+}
