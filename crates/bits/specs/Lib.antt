@@ -1,3 +1,4 @@
+-- The files of this folder: the definitions, then the laws.
 pub mod Bits
 pub mod Every
 pub mod Tests

@@ -5,7 +5,7 @@ use native.Mathlib.Nat.{mod-eq-of-lt, mod-add-mod, one-mul, zero-mul}
 use native.Mathlib.Omega.{arith}
 use lib.Bits.{bitAnd, bitXor, and-block, and-lt}
 use lib.Count.{ones, onesIn, ones-cat}
-use Rattle.bits.specs.Bits.{_⊕_, Bits, pack}
+use Rattle.bits.specs.Bits.{Bits, pack}
 use Rattle.bits.specs.Xor.{xor-bit}
 use Rattle.bits.specs.Columns.{columnSum}
 

@@ -1,1 +1,2 @@
+-- The laws that the proofs of `check` cite.
 pub mod Masks

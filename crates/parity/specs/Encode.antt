@@ -9,8 +9,8 @@ use Rattle.parity.specs.Word.{Window, receivedBit, sourceBit, parityBit}
 
 -- w has the pair p, q and the source bits s; source bit i, 1 to 24, is s i
 pub record Carries (p q : ℕ) (s : Bits) (w : Window) : Type 0 where
-  pub first : w 0 ≡ p
-  pub second : w 1 ≡ q
+  pub pairP : w 0 ≡ p
+  pub pairQ : w 1 ≡ q
   pub source : (i : ℕ) → 1 ≤ i → i ≤ 24 → sourceBit w i ≡ s i
 
 -- the pair p, q and the source bits s as they are sent, each exclusive-or q

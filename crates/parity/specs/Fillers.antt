@@ -21,14 +21,21 @@ share : ℕ → ℕ → ℕ → ℕ
 share k x y = parityBit (dataBits 0 0 (withFillers (λ i. 0) x y)) (line k)
 
 -- bit 29 has y, and bit 30 both
-shares : (x : ℕ) → x < 2 → (y : ℕ) → y < 2 → T (eqb (share 4 x y) y && eqb (share 5 x y) (x ⊕ y))
+shares : (x y : ℕ) → x < 2 → y < 2 → (share 4 x y ≡ y) × (share 5 x y ≡ x ⊕ y)
 unfolding everyBelow share withFillers dataBits parityBit sourceSum sourceBit line table
-shares x hx = everyBelow-at 2 (right x) (everyBelow-at 2 (λ x. everyBelow 2 (right x)) tt x hx)
+shares x y hx hy = (
+  eqb→eq (share 4 x y) y (and-left (eqb (share 4 x y) y) (eqb (share 5 x y) (x ⊕ y)) computed),
+  eqb→eq (share 5 x y) (x ⊕ y) (and-right (eqb (share 4 x y) y) (eqb (share 5 x y) (x ⊕ y)) computed),
+)
   where
     right : ℕ → ℕ → Bool
     right x y = eqb (share 4 x y) y && eqb (share 5 x y) (x ⊕ y)
 
+    computed : T (right x y)
+    computed = everyBelow-at 2 (right x) (everyBelow-at 2 (λ x. everyBelow 2 (right x)) tt x hx) y hy
+
 module _ (p q : ℕ) (s : Bits) (x y : ℕ) where
+  -- the word with fillers 0, and the fillers alone
   without : Window
   without = dataBits p q (withFillers s 0 0)
 
@@ -63,6 +70,7 @@ module _ (p q : ℕ) (s : Bits) (x y : ℕ) where
       ∙ parityBit-linear without alone (line k)
       ∙ ap (λ (z : ℕ). z ⊕ share k x y) (sym (encode-parity p q (withFillers s 0 0) k))
 
+  -- the word ends with a and b exactly when the fillers are those of the formulas
   pub fillers : x < 2 → y < 2 → (a b : ℕ) → a < 2 → b < 2
       → ((receivedBit (encode p q (withFillers s x y)) 29 ≡ a) × (receivedBit (encode p q (withFillers s x y)) 30 ≡ b))
       ↔ ((x ≡ filler23 p q s a b) × (y ≡ filler24 p q s a))
@@ -78,16 +86,8 @@ module _ (p q : ℕ) (s : Bits) (x y : ℕ) where
     ),
   )
     where
-      both : T (eqb (share 4 x y) y && eqb (share 5 x y) (x ⊕ y))
-      both = shares x hx y hy
-
       bit29 : encode p q (withFillers s x y) 30 ≡ encode p q (withFillers s 0 0) 30 ⊕ y
-      bit29 =
-          split 4 (lit< tt)
-          ∙ ap (λ (z : ℕ). encode p q (withFillers s 0 0) 30 ⊕ z) (eqb→eq (share 4 x y) y (and-left (eqb (share 4 x y) y) (eqb (share 5 x y) (x ⊕ y)) both))
+      bit29 = split 4 (lit< tt) ∙ ap (λ (z : ℕ). encode p q (withFillers s 0 0) 30 ⊕ z) (shares x y hx hy .0)
 
       bit30 : encode p q (withFillers s x y) 31 ≡ encode p q (withFillers s 0 0) 31 ⊕ (x ⊕ y)
-      bit30 =
-          split 5 (lit< tt)
-          ∙ ap (λ (z : ℕ). encode p q (withFillers s 0 0) 31 ⊕ z)
-          (eqb→eq (share 5 x y) (x ⊕ y) (and-right (eqb (share 4 x y) y) (eqb (share 5 x y) (x ⊕ y)) both))
+      bit30 = split 5 (lit< tt) ∙ ap (λ (z : ℕ). encode p q (withFillers s 0 0) 31 ⊕ z) (shares x y hx hy .1)

@@ -1,6 +1,8 @@
+-- The files of this folder: the definitions, then the laws.
 pub mod Table
 pub mod Word
 pub mod Encode
+pub mod Examples
 pub mod Linear
 pub mod Local
 pub mod Equations
@@ -8,5 +10,4 @@ pub mod Inverse
 pub mod Flips
 pub mod OneWord
 pub mod Fillers
-pub mod Examples
 pub mod ExamplesHold

@@ -1,5 +1,5 @@
 -- Laws. The parity bits depend on the pair and the 24 source bits alone, and the syndrome on the window's 32 bits alone.
-use mathlib.Core.Path.{_≡_, refl, sym, ap, ap₂, _∙_}
+use mathlib.Core.Path.{_≡_, refl, ap, ap₂}
 use mathlib.Core.Bool.{Bool, true, _&&_}
 use mathlib.Core.List.{List, [], _∷_}
 use Prim.Native.Nat.{ℕ, suc, _+_, _%_, _<_, _≤_}
@@ -40,14 +40,14 @@ line-source k h = and-right (eqb (line k .bit) (25 + k)) (sourceNumbers (line k 
 
 -- two windows have the same pair and the same source bits
 pub record Agree (u v : Window) : Type 0 where
-  pub p : u 0 % 2 ≡ v 0 % 2
-  pub q : u 1 % 2 ≡ v 1 % 2
+  pub pairP : u 0 % 2 ≡ v 0 % 2
+  pub pairQ : u 1 % 2 ≡ v 1 % 2
   pub source : (i : ℕ) → 1 ≤ i → i ≤ 24 → sourceBit u i ≡ sourceBit v i
 
 module _ (u v : Window) (agree : Agree u v) where
   pairBit-agree : (p : PairBit) → pairBit u p % 2 ≡ pairBit v p % 2
-  pairBit-agree P = agree .p
-  pairBit-agree Q = agree .q
+  pairBit-agree P = agree .pairP
+  pairBit-agree Q = agree .pairQ
 
   sourceSum-agree : (is : List ℕ) → T (sourceNumbers is) → sourceSum u is ≡ sourceSum v is
   unfolding sourceSum sourceNumbers
@@ -71,8 +71,8 @@ module _ (u v : Window) (same : Same 32 u v) where
   unfolding sourceBit
   same-agree =
       record {
-        p = same 0 (lit< tt);
-        q = same 1 (lit< tt);
+        pairP = same 0 (lit< tt);
+        pairQ = same 1 (lit< tt);
         source = λ i l h. omega (arith, same (suc i) (omega arith), same 1 (lit< tt));
       }
 

@@ -1,5 +1,5 @@
 -- Laws. For a pair and 24 source bits exactly one word passes: the encoded one. With the pair inverted it is the inverse.
-use mathlib.Core.Path.{_≡_, refl, sym, ap, ap₂, _∙_, subst}
+use mathlib.Core.Path.{_≡_, sym, ap, ap₂, _∙_, subst}
 use mathlib.Core.Bool.{true}
 use Prim.Native.Nat.{ℕ, zero, suc, _+_, _-_, _%_, _<_, _≤_}
 use native.Mathlib.Omega.{arith}
@@ -8,7 +8,7 @@ use borrow.Author.Tests.{lt-ltb, le-ltb}
 use lib.Dec.{lit<}
 use Rattle.bits.specs.Bits.{_⊕_, Bits, AreBits, inverse}
 use Rattle.parity.specs.Table.{line}
-use Rattle.parity.specs.Word.{Window, receivedBit, sourceBit, parityBit, failure, passes}
+use Rattle.parity.specs.Word.{Window, sourceBit, parityBit, failure, passes}
 use Rattle.parity.specs.Encode.{Carries, dataBits, encode}
 use Rattle.parity.specs.Local.{Agree, line-bit, parityBit-agree}
 use Rattle.parity.specs.Equations.{syndrome-zero, passes-syndrome, equations}
@@ -29,8 +29,8 @@ module _ (p q : ℕ) (s : Bits) where
   unfolding sourceBit
   encode-agree =
       record {
-        p = ap (λ (x : ℕ). x % 2) (encode-data 0 (lit< tt));
-        q = ap (λ (x : ℕ). x % 2) (encode-data 1 (lit< tt));
+        pairP = ap (λ (x : ℕ). x % 2) (encode-data 0 (lit< tt));
+        pairQ = ap (λ (x : ℕ). x % 2) (encode-data 1 (lit< tt));
         source = λ i l h. ap₂ _⊕_ (encode-data (suc i) (omega arith)) (encode-data 1 (lit< tt));
       }
 
@@ -66,7 +66,7 @@ module _ (p q : ℕ) (s : Bits) (bp : p < 2) (bq : q < 2) (bs : (i : ℕ) → 1 
 
   pub encode-carries : Carries p q s (encode p q s)
   unfolding sourceBit dataBits
-  encode-carries = record { first = encode-data p q s 0 (lit< tt); second = encode-data p q s 1 (lit< tt); source = back }
+  encode-carries = record { pairP = encode-data p q s 0 (lit< tt); pairQ = encode-data p q s 1 (lit< tt); source = back }
     where
       undone : (x y : ℕ) → x < 2 → (x ⊕ y) ⊕ y ≡ x
       undone x y h = omega arith
@@ -85,15 +85,15 @@ module _ (p q : ℕ) (s : Bits) (bp : p < 2) (bq : q < 2) (bs : (i : ℕ) → 1 
       agree : Agree w (dataBits p q s)
       agree =
           record {
-            p = ap (λ (x : ℕ). x % 2) (has .first);
-            q = ap (λ (x : ℕ). x % 2) (has .second);
+            pairP = ap (λ (x : ℕ). x % 2) (has .pairP);
+            pairQ = ap (λ (x : ℕ). x % 2) (has .pairQ);
             source = λ i l m. has .source i l m ∙ sym (encode-carries .source i l m) ∙ encode-agree p q s .source i l m;
           }
 
       data-same : (j : ℕ) → j < 26 → w j ≡ dataBits p q s j
-      data-same zero l = has .first
-      data-same (suc zero) l = has .second
-      data-same (suc (suc i)) l = omega (arith, has .source (suc i) (omega arith) (omega arith), has .second, bits (suc (suc i)) (omega arith))
+      data-same zero l = has .pairP
+      data-same (suc zero) l = has .pairQ
+      data-same (suc (suc i)) l = omega (arith, has .source (suc i) (omega arith) (omega arith), has .pairQ, bits (suc (suc i)) (omega arith))
 
       parity-same : (k : ℕ) → k < 6 → w (26 + k) ≡ encode p q s (26 + k)
       parity-same k l =
@@ -114,8 +114,8 @@ encode-inverse p q s bp bq bs =
     encode-only (p ⊕ 1) (q ⊕ 1) s (omega arith) (omega arith) bs (inverse (encode p q s)) (λ j h. omega arith)
     (passes-inverse (encode p q s) ∙ encode-passes p q s)
     (record {
-      first = ap (λ (x : ℕ). x ⊕ 1) (has .first);
-      second = ap (λ (x : ℕ). x ⊕ 1) (has .second);
+      pairP = ap (λ (x : ℕ). x ⊕ 1) (has .pairP);
+      pairQ = ap (λ (x : ℕ). x ⊕ 1) (has .pairQ);
       source = λ i l h. sourceBit-inverse (encode p q s) i ∙ has .source i l h;
     })
   where

@@ -6,8 +6,8 @@ ghost use Rattle.parity.specs.Table.{line};
 ghost use Rattle.parity.specs.Word.{failure, passes};
 
 // The lines of the parity table as masks of a packed window: P highest, then Q, then bits 1 to 30.
-// A mask has the bits whose exclusive-or is 0 where the equation holds. As each source bit is a received bit
-// exclusive-or Q, Q stands in a mask where the line names it an odd number of times.
+// The exclusive-or of a mask's bits is 0 where the equation holds. Each source bit brings Q in once,
+// so Q is in a mask where its line has Q and an even number of source bits, or P and an odd number.
 const EQUATIONS: [u32; 6] = [
     0xbb1f34a0,
     0x5d8f9a50,

@@ -1,6 +1,5 @@
 -- `main` is safe and ends. The invariant: what is read lies in the buffer, and `at` in what is read.
 use Prim.Native.Nat.{_≤_, _-_}
-use native.Mathlib.Omega.{arith}
 use lib.ListN.{length}
 use borrow.Author.Needs.{needs}
 use Rattle.words.proofs.main.Statement.{statement}

@@ -19,12 +19,12 @@ array-read-result : tie.Need-array-read-result
 array-read-result c = search needs
 
 -- the constants of the code
-equations : List ℕ
-equations = 0xbb1f34a0 ∷ 0x5d8f9a50 ∷ 0xaec7cd08 ∷ 0x5763e684 ∷ 0x2bb1f342 ∷ 0xcb7a89c1 ∷ []
+constants : List ℕ
+constants = 0xbb1f34a0 ∷ 0x5d8f9a50 ∷ 0xaec7cd08 ∷ 0x5763e684 ∷ 0x2bb1f342 ∷ 0xcb7a89c1 ∷ []
 
 returns : tie.Need-returns
-unfolding equations everyBelow maskOf unitAt pack table line sourceBit sourceSum parityBit failure
-returns c = masks-tell equations tt (c .args .k) (omega arith) (c .args .window) (omega arith)
+unfolding constants everyBelow maskOf unitAt pack table line sourceBit sourceSum parityBit failure
+returns c = masks-tell constants tt (c .args .k) (omega arith) (c .args .window) (omega arith)
 
 pub equation-failure-spec : {M : Type 1} → statement M
 equation-failure-spec = tie.close (tie.spec mul-result array-read-result returns)
