@@ -15,7 +15,7 @@ Bits = ℕ → ℕ
 abbrev pub AreBits : ℕ → Bits → Type 0
 AreBits n u = (j : ℕ) → j < n → u j < 2
 
--- the first n are the same bits
+-- the first n are the same bits; of a number only whether it is odd counts
 abbrev pub Same : ℕ → Bits → Bits → Type 0
 Same n u v = (j : ℕ) → j < n → u j % 2 ≡ v j % 2
 

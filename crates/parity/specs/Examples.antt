@@ -17,6 +17,7 @@ pub record Example : Type 0 where
 abbrev pub example : ℕ → ℕ → ℕ → Example
 example p s r = record { pair = p; source = s; received = r }
 
+-- In the last row the word is word 2: count, two flags, subframe number and the two fillers.
 unfoldable pub examples : List Example
 examples =
     example 0b00 0 0

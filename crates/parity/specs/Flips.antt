@@ -18,7 +18,7 @@ columns-independent : T (independent (λ j. syndrome (unitAt j)) 32 2)
 unfolding independent noneGives unitAt syndrome line table failure parityBit sourceSum sourceBit pack
 columns-independent = tt
 
--- one to three bits have a syndrome
+-- one to three bits alone have a syndrome other than 0
 few-bits : (f : Window) → 1 ≤ weight 32 f → weight 32 f ≤ 3 → syndrome f ≡ 0 → ⊥
 few-bits f l h e =
     independent-sound (λ j. syndrome (unitAt j)) 32 2 f columns-independent l h (sym (columns 32 syndrome syndrome-linear syndrome-local f) ∙ e)
