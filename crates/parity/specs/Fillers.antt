@@ -21,18 +21,20 @@ share : ℕ → ℕ → ℕ → ℕ
 share k x y = parityBit (dataBits 0 0 (withFillers (λ i. 0) x y)) (line k)
 
 -- bit 29 has y, and bit 30 both
-shares : (x y : ℕ) → x < 2 → y < 2 → (share 4 x y ≡ y) × (share 5 x y ≡ x ⊕ y)
-unfolding everyBelow share withFillers dataBits parityBit sourceSum sourceBit line table
-shares x y hx hy = (
-  eqb→eq (share 4 x y) y (and-left (eqb (share 4 x y) y) (eqb (share 5 x y) (x ⊕ y)) computed),
-  eqb→eq (share 5 x y) (x ⊕ y) (and-right (eqb (share 4 x y) y) (eqb (share 5 x y) (x ⊕ y)) computed),
-)
-  where
-    right : ℕ → ℕ → Bool
-    right x y = eqb (share 4 x y) y && eqb (share 5 x y) (x ⊕ y)
+shareRight : ℕ → ℕ → Bool
+shareRight x y = eqb (share 4 x y) y && eqb (share 5 x y) (x ⊕ y)
 
-    computed : T (right x y)
-    computed = everyBelow-at 2 (right x) (everyBelow-at 2 (λ x. everyBelow 2 (right x)) tt x hx) y hy
+shares-right : (x : ℕ) → x < 2 → (y : ℕ) → y < 2 → T (shareRight x y)
+unfolding everyBelow shareRight share withFillers dataBits parityBit sourceSum sourceBit line table
+shares-right x hx = everyBelow-at 2 (shareRight x) (everyBelow-at 2 (λ x. everyBelow 2 (shareRight x)) tt x hx)
+
+shares : (x y : ℕ) → x < 2 → y < 2 → (share 4 x y ≡ y) × (share 5 x y ≡ x ⊕ y)
+unfolding shareRight
+shares x y hx hy =
+    let t = shares-right x hx y hy in (
+      eqb→eq (share 4 x y) y (and-left (eqb (share 4 x y) y) (eqb (share 5 x y) (x ⊕ y)) t),
+      eqb→eq (share 5 x y) (x ⊕ y) (and-right (eqb (share 4 x y) y) (eqb (share 5 x y) (x ⊕ y)) t),
+    )
 
 module _ (p q : ℕ) (s : Bits) (x y : ℕ) where
   -- the word with fillers 0, and the fillers alone
