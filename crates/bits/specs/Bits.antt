@@ -1,6 +1,8 @@
 -- Definitions. Bits as the numbers 0 and 1, runs of bits, and a run of bits as one number.
 use mathlib.Core.Path.{_≡_}
+use mathlib.Core.Bool.{cond}
 use Prim.Native.Nat.{ℕ, zero, suc, _+_, _-_, _*_, _/_, _%_, _^_, _<_}
+use lib.Dec.{eqb}
 
 infixl 60 _⊕_
 -- the exclusive-or of two bits
@@ -26,6 +28,10 @@ xor u v j = u j ⊕ v j
 -- 0 and 1 swapped throughout
 abbrev pub inverse : Bits → Bits
 inverse u j = u j ⊕ 1
+
+-- a 1 at place n alone
+unfoldable pub unitAt : ℕ → Bits
+unitAt n j = cond (eqb j n) 1 0
 
 -- how many of the first n are 1
 unfoldable pub weight : ℕ → Bits → ℕ

@@ -1,17 +1,11 @@
 -- Laws. A linear function of n bits is the exclusive-or of its columns; a column is what one bit contributes alone.
-use mathlib.Core.Path.{_≡_, refl, sym, ap₂, _∙_, subst}
-use mathlib.Core.Bool.{cond}
+use mathlib.Core.Path.{_≡_, refl, ap₂, _∙_}
 use Prim.Native.Nat.{ℕ, zero, suc, _*_, _%_, _<_, _≤_}
 use native.Mathlib.Omega.{arith}
-use native.Mathlib.Decide.{ℕ-discrete}
 use borrow.Author.Tests.{eq-eqb, ne-eqb}
-use lib.Dec.{eqb}
 use lib.Bits.{bitXor, xor-self}
-use Rattle.bits.specs.Bits.{_⊕_, Bits, Same, xor}
-
--- the run with a 1 at place n alone
-unfoldable pub unitAt : ℕ → Bits
-unitAt n j = cond (eqb j n) 1 0
+use Rattle.bits.specs.Bits.{_⊕_, Bits, Same, xor, unitAt}
+use Rattle.bits.specs.Tests.{below-suc}
 
 -- the exclusive-or of c j over the places j < n at which u has a 1
 unfoldable pub columnSum : (ℕ → ℕ) → ℕ → Bits → ℕ
@@ -39,12 +33,10 @@ firstBits-out (suc n) u j h = rw (firstBits-out n u j (omega arith), unit-other 
 firstBits-in : (n : ℕ) (u : Bits) (j : ℕ) → j < n → firstBits n u j ≡ u j % 2
 unfolding firstBits
 firstBits-in zero u j h = absurd (omega arith)
-firstBits-in (suc n) u j h = go (ℕ-discrete j n) (firstBits-in n u j)
-  where
-    go : Dec (j ≡ n) → (j < n → firstBits n u j ≡ u j % 2) → firstBits (suc n) u j ≡ u j % 2
-    go (yes e) ih =
-        subst (λ (m : ℕ). firstBits (suc n) u m ≡ u m % 2) (sym e) (rw (firstBits-out n u n (omega arith), unit-here n) (omega arith))
-    go (no e) ih = rw (unit-other n j e, ih (omega arith)) (omega arith)
+firstBits-in (suc n) u j h =
+    below-suc (λ i. firstBits (suc n) u i ≡ u i % 2) n
+    (λ i l. rw (unit-other n i (λ e. omega arith), firstBits-in n u i l) (omega arith))
+    (rw (firstBits-out n u n (omega arith), unit-here n) (omega arith)) j h
 
 module _ (N : ℕ) (L : Bits → ℕ) (linear : (u v : Bits) → L (xor u v) ≡ bitXor (L u) (L v)) (local : (u v : Bits) → Same N u v → L u ≡ L v) where
   at-zero : L (λ j. 0) ≡ 0

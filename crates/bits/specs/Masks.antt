@@ -1,26 +1,23 @@
 -- Laws. Counting the bits that a number shares with a mask: odd or even, it is the exclusive-or of the bits at the mask's places.
 use mathlib.Core.Path.{_≡_, refl, sym, ap, _∙_}
 use Prim.Native.Nat.{ℕ, zero, suc, _+_, _*_, _%_, _<_}
-use native.Mathlib.Nat.{mod-eq-of-lt, mod-add-mod, one-mul, zero-mul}
+use native.Mathlib.Nat.{mod-eq-of-lt, mod-add-mod}
 use native.Mathlib.Omega.{arith}
 use lib.Bits.{bitAnd, bitXor, and-block, and-lt}
 use lib.Count.{ones, onesIn, ones-cat}
 use Rattle.bits.specs.Bits.{Bits, pack}
+use Rattle.bits.specs.Every.{everyBelow}
+use Rattle.bits.specs.Tests.{equal-below₂}
 use Rattle.bits.specs.Xor.{xor-bit}
 use Rattle.bits.specs.Columns.{columnSum}
 
 and-bit : (x y : ℕ) → x < 2 → y < 2 → ones (bitAnd x y) ≡ x * y
-unfolding ones onesIn
-and-bit zero y h k = sym (zero-mul y)
-and-bit (suc zero) zero h k = refl
-and-bit (suc zero) (suc zero) h k = refl
-and-bit (suc zero) (suc (suc y)) h k = absurd (omega arith)
-and-bit (suc (suc x)) y h k = absurd (omega arith)
+unfolding everyBelow ones onesIn
+and-bit = equal-below₂ 2 2 (λ x y. ones (bitAnd x y)) _*_ tt
 
-bit-mul-lt : (x y : ℕ) → x < 2 → y < 2 → x * y < 2
-bit-mul-lt zero y h k = rw (zero-mul y) (omega arith)
-bit-mul-lt (suc zero) y h k = rw (one-mul y) k
-bit-mul-lt (suc (suc x)) y h k = absurd (omega arith)
+mul-bit : (x y : ℕ) → x < 2 → y < 2 → x * y ≡ x * y % 2
+unfolding everyBelow
+mul-bit = equal-below₂ 2 2 _*_ (λ x y. x * y % 2) tt
 
 -- the mask has a digit c j at each place j
 pub masked : (c : Bits) → ((j : ℕ) → c j < 2) → (n : ℕ) (u : Bits) → ones (bitAnd (pack n u) (pack n c)) % 2 ≡ columnSum c n u
@@ -33,5 +30,5 @@ masked c h (suc n) u =
     ∙ ap (λ (m : ℕ). ones (bitAnd (pack n u) (pack n c)) + m)
     (and-bit (u n % 2) (c n % 2) (omega arith) (omega arith) ∙ ap (λ (m : ℕ). u n % 2 * m) (mod-eq-of-lt (h n))))
     ∙ sym (mod-add-mod (ones (bitAnd (pack n u) (pack n c))) 2 (u n % 2 * c n))
-    ∙ sym (xor-bit (ones (bitAnd (pack n u) (pack n c)) % 2) (u n % 2 * c n) (omega arith) (bit-mul-lt (u n % 2) (c n) (omega arith) (h n)))
+    ∙ sym (xor-bit (ones (bitAnd (pack n u) (pack n c)) % 2) (u n % 2 * c n) (omega arith) (omega (arith, mul-bit (u n % 2) (c n) (omega arith) (h n))))
     ∙ ap (λ (m : ℕ). bitXor m (u n % 2 * c n)) (masked c h n u)

@@ -4,10 +4,10 @@ use Prim.Native.Nat.{ℕ, zero, suc, _+_, _-_, _*_, _/_, _^_, _%_, _<_, _≤_}
 use native.Mathlib.Nat.{pow-suc}
 use native.Mathlib.Numerals.{add-one}
 use native.Mathlib.Omega.{arith}
-use native.Mathlib.Decide.{ℕ-discrete}
 use lib.Bits.{bitXor, xor-block}
 use lib.Pow.{shr-shr, pow-mono}
 use Rattle.bits.specs.Bits.{_⊕_, Bits, Same, xor, pack, unpack}
+use Rattle.bits.specs.Tests.{below-suc}
 use Rattle.bits.specs.Xor.{xor-bit}
 
 pub pack-lt : (n : ℕ) (u : Bits) → pack n u < 2 ^ n
@@ -41,39 +41,31 @@ pack-xor (suc n) u v =
 pub pack-zero : (n : ℕ) (u : Bits) → pack n u ≡ 0 → (j : ℕ) → j < n → u j % 2 ≡ 0
 unfolding pack
 pack-zero zero u e j h = absurd (omega arith)
-pack-zero (suc n) u e j h = go (ℕ-discrete j n) (pack-zero n u (omega arith) j)
-  where
-    go : Dec (j ≡ n) → (j < n → u j % 2 ≡ 0) → u j % 2 ≡ 0
-    go (yes q) ih = rw q (omega arith)
-    go (no q) ih = ih (omega arith)
+pack-zero (suc n) u e j h = below-suc (λ i. u i % 2 ≡ 0) n (pack-zero n u (omega arith)) (omega arith) j h
 
 -- ---- each undoes the other
 
 -- the digits but the lowest are those of the half
 unpack-half : (n x j : ℕ) → j < n → unpack (suc n) x j ≡ unpack n (x / 2) j
 unfolding unpack
-unpack-half n x j h = ap (λ (e : ℕ). x / 2 ^ e % 2) (omega arith) ∙ ap (λ (y : ℕ). y % 2) (sym (shr-shr x 1 (n - 1 - j)))
+unpack-half n x j h = sym (ap (λ (y : ℕ). y % 2) (shr-shr x 1 _) ∙ ap (λ (e : ℕ). x / 2 ^ e % 2) (omega arith))
 
 unpack-last : (n x : ℕ) → unpack (suc n) x n ≡ x % 2
 unfolding unpack
-unpack-last n x = ap (λ (e : ℕ). x / 2 ^ e % 2) (none n) ∙ omega arith
-  where
-    none : (n : ℕ) → suc n - 1 - n ≡ 0
-    none n = omega arith
+unpack-last n x =
+    let none : suc n - 1 - n ≡ 0 = omega arith in
+    rw none (omega arith)
 
 pub unpack-pack : (n : ℕ) (u : Bits) (j : ℕ) → j < n → unpack n (pack n u) j ≡ u j % 2
 unfolding pack
 unpack-pack zero u j h = absurd (omega arith)
-unpack-pack (suc n) u j h = go (ℕ-discrete j n) (unpack-pack n u j)
+unpack-pack (suc n) u j h =
+    below-suc (λ i. unpack (suc n) (pack n u * 2 + u n % 2) i ≡ u i % 2) n
+    (λ i l. unpack-half n (pack n u * 2 + u n % 2) i l ∙ ap (λ (x : ℕ). unpack n x i) (half (pack n u) (u n % 2) (omega arith)) ∙ unpack-pack n u i l)
+    (unpack-last n (pack n u * 2 + u n % 2) ∙ omega arith) j h
   where
     half : (x b : ℕ) → b < 2 → (x * 2 + b) / 2 ≡ x
     half x b l = omega arith
-
-    go : Dec (j ≡ n) → (j < n → unpack n (pack n u) j ≡ u j % 2) → unpack (suc n) (pack n u * 2 + u n % 2) j ≡ u j % 2
-    go (yes e) ih = rw (e, unpack-last) (omega arith)
-    go (no e) ih =
-        unpack-half n (pack n u * 2 + u n % 2) j (omega arith)
-        ∙ ap (λ (x : ℕ). unpack n x j) (half (pack n u) (u n % 2) (omega arith)) ∙ ih (omega arith)
 
 pub pack-unpack : (n x : ℕ) → x < 2 ^ n → pack n (unpack n x) ≡ x
 unfolding pack

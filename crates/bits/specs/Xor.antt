@@ -1,11 +1,12 @@
 -- Laws. The exclusive-or of bits, and of numbers digit by digit.
 use mathlib.Core.Path.{_≡_, refl, sym, ap, ap₂, _∙_}
-use Prim.Native.Nat.{ℕ, zero, suc, _+_, _*_, _/_, _%_, _<_}
-use native.Mathlib.Nat.{mod-add-mod, add-mod-mod, add-assoc}
+use Prim.Native.Nat.{ℕ, _+_, _*_, _/_, _%_, _<_}
 use native.Mathlib.Omega.{arith}
 use lib.Arith.{bin-ind}
 use lib.Bits.{bitXor, bitAnd, xor-shr, xor-add-and}
 use Rattle.bits.specs.Bits.{_⊕_}
+use Rattle.bits.specs.Every.{everyBelow}
+use Rattle.bits.specs.Tests.{equal-below₂}
 
 -- ---- of bits
 
@@ -14,7 +15,7 @@ pub odd-only : (a b c d : ℕ) → a % 2 ≡ b % 2 → c % 2 ≡ d % 2 → a ⊕
 odd-only a b c d p q = omega arith
 
 pub ⊕-assoc : (a b c : ℕ) → (a ⊕ b) ⊕ c ≡ a ⊕ (b ⊕ c)
-⊕-assoc a b c = mod-add-mod (a + b) 2 c ∙ ap (λ (n : ℕ). n % 2) (add-assoc a b c) ∙ sym (add-mod-mod a (b + c) 2)
+⊕-assoc a b c = omega arith
 
 -- the interchange law, from which linearity follows
 pub interchange : (a b c d : ℕ) → (a ⊕ b) ⊕ (c ⊕ d) ≡ (a ⊕ c) ⊕ (b ⊕ d)
@@ -28,11 +29,8 @@ pub xor-odd : (a b : ℕ) → bitXor a b % 2 ≡ a ⊕ b
 xor-odd a b = let e : bitXor a b + bitAnd a b * 2 ≡ a + b = xor-add-and a b in omega arith
 
 pub xor-bit : (a b : ℕ) → a < 2 → b < 2 → bitXor a b ≡ a ⊕ b
-xor-bit zero b h k = omega arith
-xor-bit (suc zero) zero h k = refl
-xor-bit (suc zero) (suc zero) h k = refl
-xor-bit (suc zero) (suc (suc b)) h k = absurd (omega arith)
-xor-bit (suc (suc a)) b h k = absurd (omega arith)
+unfolding everyBelow
+xor-bit = equal-below₂ 2 2 bitXor _⊕_ tt
 
 -- the digits above the lowest, and the lowest
 xor-digit : (a b : ℕ) → bitXor a b ≡ bitXor (a / 2) (b / 2) * 2 + (a ⊕ b)

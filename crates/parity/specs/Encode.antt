@@ -1,13 +1,17 @@
 -- Definitions. The word for a pair and 24 source bits, and the two fillers that give a word a wanted ending.
 use mathlib.Core.Path.{_≡_}
 use mathlib.Core.Bool.{cond}
-use Prim.Native.Nat.{ℕ, zero, suc, _-_, _≤_}
+use Prim.Native.Nat.{ℕ, zero, suc, _-_, _<_, _≤_}
 use lib.Dec.{eqb, ltb}
 use Rattle.bits.specs.Bits.{_⊕_, Bits}
 use Rattle.parity.specs.Table.{line}
 use Rattle.parity.specs.Word.{Window, receivedBit, sourceBit, parityBit}
 
--- w has the pair p, q and the source bits s; source bit i, 1 to 24, is s i
+-- source bits 1 to 24 are s 1 to s 24
+abbrev pub AreSource : Bits → Type 0
+AreSource s = (i : ℕ) → 1 ≤ i → i ≤ 24 → s i < 2
+
+-- w has the pair p, q and the source bits s
 pub record Carries (p q : ℕ) (s : Bits) (w : Window) : Type 0 where
   pub pairP : w 0 ≡ p
   pub pairQ : w 1 ≡ q

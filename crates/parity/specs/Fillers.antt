@@ -1,14 +1,14 @@
 -- Laws. For a pair, 22 source bits and a wanted ending exactly one choice of the two fillers ends the word so.
 use mathlib.Core.Path.{_≡_, sym, ap, _∙_}
-use mathlib.Core.Bool.{Bool, true, false, _&&_, cond}
+use mathlib.Core.Bool.{Bool, true, false, cond}
 use mathlib.Core.Logic.{_↔_}
 use Prim.Native.Nat.{ℕ, zero, suc, _+_, _%_, _<_}
 use native.Mathlib.Omega.{arith}
-use lib.Dec.{T, eqb, eqb→eq, lit<}
+use lib.Dec.{eqb, lit<}
 use Rattle.bits.specs.Bits.{_⊕_, Bits, Same, xor}
 use Rattle.bits.specs.Xor.{odd-only, interchange}
 use Rattle.bits.specs.Every.{everyBelow}
-use Rattle.bits.specs.Tests.{and-left, and-right, everyBelow-at}
+use Rattle.bits.specs.Tests.{equal-below₂}
 use Rattle.parity.specs.Table.{table, line}
 use Rattle.parity.specs.Word.{Window, receivedBit, sourceBit, sourceSum, parityBit}
 use Rattle.parity.specs.Encode.{dataBits, encode, withFillers, filler23, filler24}
@@ -21,20 +21,13 @@ share : ℕ → ℕ → ℕ → ℕ
 share k x y = parityBit (dataBits 0 0 (withFillers (λ i. 0) x y)) (line k)
 
 -- bit 29 has y, and bit 30 both
-shareRight : ℕ → ℕ → Bool
-shareRight x y = eqb (share 4 x y) y && eqb (share 5 x y) (x ⊕ y)
+share-29 : (x y : ℕ) → x < 2 → y < 2 → share 4 x y ≡ y
+unfolding everyBelow share withFillers dataBits parityBit sourceSum sourceBit line table
+share-29 = equal-below₂ 2 2 (share 4) (λ x y. y) tt
 
-shares-right : (x : ℕ) → x < 2 → (y : ℕ) → y < 2 → T (shareRight x y)
-unfolding everyBelow shareRight share withFillers dataBits parityBit sourceSum sourceBit line table
-shares-right x hx = everyBelow-at 2 (shareRight x) (everyBelow-at 2 (λ x. everyBelow 2 (shareRight x)) tt x hx)
-
-shares : (x y : ℕ) → x < 2 → y < 2 → (share 4 x y ≡ y) × (share 5 x y ≡ x ⊕ y)
-unfolding shareRight
-shares x y hx hy =
-    let t = shares-right x hx y hy in (
-      eqb→eq (share 4 x y) y (and-left (eqb (share 4 x y) y) (eqb (share 5 x y) (x ⊕ y)) t),
-      eqb→eq (share 5 x y) (x ⊕ y) (and-right (eqb (share 4 x y) y) (eqb (share 5 x y) (x ⊕ y)) t),
-    )
+share-30 : (x y : ℕ) → x < 2 → y < 2 → share 5 x y ≡ x ⊕ y
+unfolding everyBelow share withFillers dataBits parityBit sourceSum sourceBit line table
+share-30 = equal-below₂ 2 2 (share 5) _⊕_ tt
 
 module _ (p q : ℕ) (s : Bits) (x y : ℕ) where
   -- the word with fillers 0, and the fillers alone
@@ -50,14 +43,14 @@ module _ (p q : ℕ) (s : Bits) (x y : ℕ) where
   parts (suc zero) h = omega arith
   parts (suc (suc i)) h =
       ap (λ (z : ℕ). z % 2)
-      (odd-only (withFillers s x y (suc i)) (zeros ⊕ fillers) q (q ⊕ 0) (at (eqb (suc i) 23) (eqb (suc i) 24) (s (suc i))) (omega arith)
-      ∙ sym (interchange zeros q fillers 0))
+      (odd-only (withFillers s x y (suc i)) (zeros ⊕ own) q (q ⊕ 0) (at (eqb (suc i) 23) (eqb (suc i) 24) (s (suc i))) (omega arith)
+      ∙ sym (interchange zeros q own 0))
     where
       zeros : ℕ
       zeros = withFillers s 0 0 (suc i)
 
-      fillers : ℕ
-      fillers = withFillers (λ i. 0) x y (suc i)
+      own : ℕ
+      own = withFillers (λ i. 0) x y (suc i)
 
       at : (a b : Bool) (z : ℕ) → cond a x (cond b y z) % 2 ≡ (cond a 0 (cond b 0 z) ⊕ cond a x (cond b y 0)) % 2
       at true b z = omega arith
@@ -89,7 +82,7 @@ module _ (p q : ℕ) (s : Bits) (x y : ℕ) where
   )
     where
       bit29 : encode p q (withFillers s x y) 30 ≡ encode p q (withFillers s 0 0) 30 ⊕ y
-      bit29 = split 4 (lit< tt) ∙ ap (λ (z : ℕ). encode p q (withFillers s 0 0) 30 ⊕ z) (shares x y hx hy .0)
+      bit29 = split 4 (lit< tt) ∙ ap (λ (z : ℕ). encode p q (withFillers s 0 0) 30 ⊕ z) (share-29 x y hx hy)
 
       bit30 : encode p q (withFillers s x y) 31 ≡ encode p q (withFillers s 0 0) 31 ⊕ (x ⊕ y)
-      bit30 = split 5 (lit< tt) ∙ ap (λ (z : ℕ). encode p q (withFillers s 0 0) 31 ⊕ z) (shares x y hx hy .1)
+      bit30 = split 5 (lit< tt) ∙ ap (λ (z : ℕ). encode p q (withFillers s 0 0) 31 ⊕ z) (share-30 x y hx hy)

@@ -4,9 +4,9 @@ use mathlib.Core.Bool.{Bool, true, false}
 use Prim.Native.Nat.{ℕ, _≤_}
 use lib.Dec.{T}
 use lib.Bits.{bitXor}
-use Rattle.bits.specs.Bits.{xor, weight, pack}
-use Rattle.bits.specs.Columns.{unitAt, columns}
-use Rattle.bits.specs.Distance.{noneGives, independent, independent-sound}
+use Rattle.bits.specs.Bits.{xor, unitAt, weight, pack}
+use Rattle.bits.specs.Columns.{columns}
+use Rattle.bits.specs.Distance.{noneCancel, few-columns}
 use Rattle.parity.specs.Table.{table, line}
 use Rattle.parity.specs.Word.{Window, sourceBit, sourceSum, parityBit, failure, syndrome, passes}
 use Rattle.parity.specs.Linear.{syndrome-linear}
@@ -14,14 +14,14 @@ use Rattle.parity.specs.Local.{syndrome-local}
 use Rattle.parity.specs.Equations.{passes-syndrome}
 
 -- no one, two or three of the 32 columns cancel
-columns-independent : T (independent (λ j. syndrome (unitAt j)) 32 2)
-unfolding independent noneGives unitAt syndrome line table failure parityBit sourceSum sourceBit pack
-columns-independent = tt
+columns-apart : T (noneCancel (λ j. syndrome (unitAt j)) 0 32 0 3)
+unfolding noneCancel unitAt syndrome line table failure parityBit sourceSum sourceBit pack
+columns-apart = tt
 
 -- one to three bits alone have a syndrome other than 0
 few-bits : (f : Window) → 1 ≤ weight 32 f → weight 32 f ≤ 3 → syndrome f ≡ 0 → ⊥
 few-bits f l h e =
-    independent-sound (λ j. syndrome (unitAt j)) 32 2 f columns-independent l h (sym (columns 32 syndrome syndrome-linear syndrome-local f) ∙ e)
+    few-columns (λ j. syndrome (unitAt j)) 32 3 f columns-apart l h (sym (columns 32 syndrome syndrome-linear syndrome-local f) ∙ e)
 
 -- f has a 1 at each bit that is flipped
 pub few-flips : (w f : Window) → passes w ≡ true → 1 ≤ weight 32 f → weight 32 f ≤ 3 → passes (xor w f) ≡ false

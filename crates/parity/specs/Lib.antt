@@ -3,6 +3,7 @@ pub mod Table
 pub mod Word
 pub mod Encode
 pub mod Examples
+pub mod Masks
 pub mod Linear
 pub mod Local
 pub mod Equations

@@ -4,10 +4,10 @@ use mathlib.Core.Bool.{Bool, true, _&&_}
 use mathlib.Core.List.{List, [], _∷_}
 use Prim.Native.Nat.{ℕ, suc, _+_, _%_, _<_, _≤_}
 use native.Mathlib.Omega.{arith}
-use lib.Dec.{T, eqb, leb, lit<, eqb→eq, leb→le}
+use lib.Dec.{T, eqb, leb, lit<, leb→le}
 use Rattle.bits.specs.Bits.{_⊕_, Same, pack, unpack}
 use Rattle.bits.specs.Every.{everyBelow}
-use Rattle.bits.specs.Tests.{and-left, and-right, everyBelow-at}
+use Rattle.bits.specs.Tests.{and-left, and-right, everyBelow-at, equal-below}
 use Rattle.bits.specs.Xor.{odd-only}
 use Rattle.bits.specs.Pack.{pack-same, unpack-pack}
 use Rattle.parity.specs.Table.{PairBit, P, Q, table, line}
@@ -20,21 +20,13 @@ sourceNumbers : List ℕ → Bool
 sourceNumbers [] = true
 sourceNumbers (i ∷ is) = (leb 1 i && leb i 24) && sourceNumbers is
 
--- line k gives bit 25 + k from source bits
-wellFormed : ℕ → Bool
-wellFormed k = eqb (line k .bit) (25 + k) && sourceNumbers (line k .source)
-
-line-wellFormed : (k : ℕ) → k < 6 → T (wellFormed k)
-unfolding everyBelow wellFormed sourceNumbers line table
-line-wellFormed = everyBelow-at 6 wellFormed tt
-
 pub line-bit : (k : ℕ) → k < 6 → line k .bit ≡ 25 + k
-unfolding wellFormed
-line-bit k h = eqb→eq (line k .bit) (25 + k) (and-left (eqb (line k .bit) (25 + k)) (sourceNumbers (line k .source)) (line-wellFormed k h))
+unfolding everyBelow line table
+line-bit = equal-below 6 (λ k. line k .bit) (λ k. 25 + k) tt
 
 line-source : (k : ℕ) → k < 6 → T (sourceNumbers (line k .source))
-unfolding wellFormed
-line-source k h = and-right (eqb (line k .bit) (25 + k)) (sourceNumbers (line k .source)) (line-wellFormed k h)
+unfolding everyBelow sourceNumbers line table
+line-source = everyBelow-at 6 (λ k. sourceNumbers (line k .source)) tt
 
 -- ---- the pair and the source bits
 

@@ -9,12 +9,22 @@ use lib.Dec.{lit<}
 use Rattle.bits.specs.Bits.{_⊕_, Bits, AreBits, inverse}
 use Rattle.parity.specs.Table.{line}
 use Rattle.parity.specs.Word.{Window, sourceBit, parityBit, failure, passes}
-use Rattle.parity.specs.Encode.{Carries, dataBits, encode}
+use Rattle.parity.specs.Encode.{AreSource, Carries, dataBits, encode}
 use Rattle.parity.specs.Local.{Agree, line-bit, parityBit-agree}
 use Rattle.parity.specs.Equations.{syndrome-zero, passes-syndrome, equations}
 use Rattle.parity.specs.Inverse.{passes-inverse, sourceBit-inverse}
 
 -- ---- the parts of the encoded word
+
+-- the pair and bits 1 to 24 stand at places 0 to 25, the parity bits at 26 to 31
+by-parts : (A : ℕ → Type 0) → ((j : ℕ) → j < 26 → A j) → ((k : ℕ) → k < 6 → A (26 + k)) → (j : ℕ) → j < 32 → A j
+by-parts A data-part parity-part j h = go (decLt j 26)
+  where
+    go : Dec (j < 26) → A j
+    go (yes l) = data-part j l
+    go (no l) =
+        let at : 26 + (j - 26) ≡ j = omega arith in
+        subst A at (parity-part (j - 26) (omega arith))
 
 module _ (p q : ℕ) (s : Bits) where
   encode-data : (j : ℕ) → j < 26 → encode p q s j ≡ dataBits p q s j
@@ -49,20 +59,18 @@ module _ (p q : ℕ) (s : Bits) where
           (parityBit-agree (encode p q s) (dataBits p q s) encode-agree k h)
           ∙ twice (parityBit (dataBits p q s) (line k))
 
-module _ (p q : ℕ) (s : Bits) (bp : p < 2) (bq : q < 2) (bs : (i : ℕ) → 1 ≤ i → i ≤ 24 → s i < 2) where
+module _ (p q : ℕ) (s : Bits) (bp : p < 2) (bq : q < 2) (bs : AreSource s) where
   -- ---- it is a word of bits that has the pair and the source bits
 
   pub encode-bits : AreBits 32 (encode p q s)
   unfolding dataBits parityBit
-  encode-bits zero h = rw (encode-data p q s 0 (lit< tt)) bp
-  encode-bits (suc zero) h = rw (encode-data p q s 1 (lit< tt)) bq
-  encode-bits (suc (suc i)) h = go (decLt (suc (suc i)) 26)
+  encode-bits =
+      by-parts (λ j. encode p q s j < 2) (λ j l. rw (encode-data p q s j l) (data-bit j)) (λ k l. rw (encode-parity p q s k) (omega arith))
     where
-      go : Dec (suc (suc i) < 26) → encode p q s (suc (suc i)) < 2
-      go (yes l) = rw (encode-data p q s (suc (suc i)) l) (omega arith)
-      go (no l) =
-          let at : 26 + (i - 24) ≡ suc (suc i) = omega arith in
-          subst (λ (j : ℕ). encode p q s j < 2) at (rw (encode-parity p q s (i - 24)) (omega arith))
+      data-bit : (j : ℕ) → dataBits p q s j < 2
+      data-bit zero = bp
+      data-bit (suc zero) = bq
+      data-bit (suc (suc i)) = omega arith
 
   pub encode-carries : Carries p q s (encode p q s)
   unfolding sourceBit dataBits
@@ -80,7 +88,7 @@ module _ (p q : ℕ) (s : Bits) (bp : p < 2) (bq : q < 2) (bs : (i : ℕ) → 1 
 
   pub encode-only : (w : Window) → AreBits 32 w → passes w ≡ true → Carries p q s w → (j : ℕ) → j < 32 → w j ≡ encode p q s j
   unfolding sourceBit dataBits
-  encode-only w bits t has j h = go j h (decLt j 26)
+  encode-only w bits t has = by-parts (λ j. w j ≡ encode p q s j) (λ j l. data-same j l ∙ sym (encode-data p q s j l)) parity-same
     where
       agree : Agree w (dataBits p q s)
       agree =
@@ -100,16 +108,9 @@ module _ (p q : ℕ) (s : Bits) (bp : p < 2) (bq : q < 2) (bs : (i : ℕ) → 1 
           ap w (omega (arith, line-bit k l)) ∙ equations w bits .0 (passes-syndrome w .0 t) k l ∙ parityBit-agree w (dataBits p q s) agree k l
           ∙ sym (encode-parity p q s k)
 
-      go : (j : ℕ) → j < 32 → Dec (j < 26) → w j ≡ encode p q s j
-      go j h (yes l) = data-same j l ∙ sym (encode-data p q s j l)
-      go j h (no l) =
-          let at : 26 + (j - 26) ≡ j = omega arith in
-          subst (λ (i : ℕ). w i ≡ encode p q s i) at (parity-same (j - 26) (omega arith))
-
 -- ---- the inverse
 
-pub encode-inverse : (p q : ℕ) (s : Bits) → p < 2 → q < 2 → ((i : ℕ) → 1 ≤ i → i ≤ 24 → s i < 2)
-    → (j : ℕ) → j < 32 → inverse (encode p q s) j ≡ encode (p ⊕ 1) (q ⊕ 1) s j
+pub encode-inverse : (p q : ℕ) (s : Bits) → p < 2 → q < 2 → AreSource s → (j : ℕ) → j < 32 → inverse (encode p q s) j ≡ encode (p ⊕ 1) (q ⊕ 1) s j
 encode-inverse p q s bp bq bs =
     encode-only (p ⊕ 1) (q ⊕ 1) s (omega arith) (omega arith) bs (inverse (encode p q s)) (λ j h. omega arith)
     (passes-inverse (encode p q s) ∙ encode-passes p q s)

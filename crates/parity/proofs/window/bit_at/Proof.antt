@@ -28,13 +28,13 @@ add-wide : tie.Need-add-wide
 add-wide c = search needs
 
 shared-slice-read-wide : tie.Need-shared-slice-read-wide
-shared-slice-read-wide c = search needs
+shared-slice-read-wide c = omega arith
 
 wide-requires : tie.Need-wide-requires
 wide-requires c κs = search needs
 
 returns-3 : tie.Need-returns-3
-returns-3 c = search needs
+returns-3 c = ap (λ (x : ℕ). x % 2) (c .wide .ensures)
 
 pub bit-at-spec : {M : Type 1} → statement M
 bit-at-spec = tie.close (tie.spec returns sub-if2 returns-2 add-wide shared-slice-read-wide wide-requires returns-3)
