@@ -1,8 +1,10 @@
 -- Definitions. Bits as the numbers 0 and 1, runs of bits, and a run of bits as one number.
 use mathlib.Core.Path.{_≡_}
 use mathlib.Core.Bool.{cond}
+use mathlib.Core.List.{List}
 use Prim.Native.Nat.{ℕ, zero, suc, _+_, _-_, _*_, _/_, _%_, _^_, _<_}
 use lib.Dec.{eqb}
+use lib.ListN.{getD}
 
 infixl 60 _⊕_
 -- the exclusive-or of two bits
@@ -12,6 +14,10 @@ x ⊕ y = (x + y) % 2
 -- a run of bits: the bit at each place, from 0; each use says how many of them count
 abbrev pub Bits : Type 0
 Bits = ℕ → ℕ
+
+-- the bits from place p of a log on, a byte a bit; a place (a term of document 01) is an index from 0
+abbrev pub bitsAt : List ℕ → ℕ → Bits
+bitsAt s p j = getD s (p + j) 0
 
 -- the first n are 0 or 1
 abbrev pub AreBits : ℕ → Bits → Type 0

@@ -5,7 +5,7 @@ use Prim.Native.Nat.{ℕ, suc, _+_, _-_, _*_, _^_}
 use lib.Dec.{eqb}
 use lib.ListN.{getD}
 use Rattle.bits.specs.Bits.{Bits, pack, unpack}
-use Rattle.parity.specs.Word.{Window, receivedBit, sourceBit, passes}
+use Rattle.parity.specs.Word.{Window, receivedBit, sourceBits, passes}
 use Rattle.parity.specs.Encode.{encode, filler23, filler24}
 
 -- P and Q, the 24 source bits and the 30 received bits, each as a number, its first bit highest
@@ -46,7 +46,7 @@ holds e =
     let w = windowOf e in
     let s = sourceOf e in
     passes w
-    && eqb (pack 24 (λ i. sourceBit w (suc i))) (e .source)
+    && eqb (sourceBits w) (e .source)
     && eqb (pack 32 (encode (w 0) (w 1) s)) (pack 32 w)
     && eqb (filler23 (w 0) (w 1) s (receivedBit w 29) (receivedBit w 30)) (s 23)
     && eqb (filler24 (w 0) (w 1) s (receivedBit w 29)) (s 24)

@@ -1,5 +1,5 @@
 -- Laws. For a pair and 24 source bits exactly one word passes: the encoded one. With the pair inverted it is the inverse.
-use mathlib.Core.Path.{_≡_, sym, ap, ap₂, _∙_, subst}
+use mathlib.Core.Path.{_≡_, refl, sym, ap, ap₂, _∙_, subst}
 use mathlib.Core.Bool.{true}
 use Prim.Native.Nat.{ℕ, zero, suc, _+_, _-_, _%_, _<_, _≤_}
 use native.Mathlib.Omega.{arith}
@@ -107,6 +107,15 @@ module _ (p q : ℕ) (s : Bits) (bp : p < 2) (bq : q < 2) (bs : AreSource s) whe
       parity-same k l =
           ap w (omega (arith, line-bit k l)) ∙ equations w bits .0 (passes-syndrome w .0 t) k l ∙ parityBit-agree w (dataBits p q s) agree k l
           ∙ sym (encode-parity p q s k)
+
+-- two passing words with the same pair and the same source bits are the same word
+pub one-word : (u v : Window) → AreBits 32 u → AreBits 32 v → passes u ≡ true → passes v ≡ true → Carries (v 0) (v 1) (sourceBit v) u
+    → (j : ℕ) → j < 32 → u j ≡ v j
+unfolding sourceBit
+one-word u v bu bv tu tv has j h = is u bu tu has j h ∙ sym (is v bv tv (record { pairP = refl; pairQ = refl; source = λ i l m. refl }) j h)
+  where
+    is : (w : Window) → AreBits 32 w → passes w ≡ true → Carries (v 0) (v 1) (sourceBit v) w → (j : ℕ) → j < 32 → w j ≡ encode (v 0) (v 1) (sourceBit v) j
+    is = encode-only (v 0) (v 1) (sourceBit v) (bv 0 (lit< tt)) (bv 1 (lit< tt)) (λ i l m. omega arith)
 
 -- ---- the inverse
 

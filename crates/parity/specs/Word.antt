@@ -1,19 +1,14 @@
 -- Definitions. A received word with the two bits before it: its source bits, the six equations, the syndrome.
 use mathlib.Core.Bool.{Bool}
 use mathlib.Core.List.{List, [], _∷_}
-use Prim.Native.Nat.{ℕ, suc, _+_}
+use Prim.Native.Nat.{ℕ, suc}
 use lib.Dec.{eqb}
-use lib.ListN.{getD}
 use Rattle.bits.specs.Bits.{_⊕_, Bits, pack}
 use Rattle.parity.specs.Table.{PairBit, P, Q, Equation, line}
 
 -- A window (a term of document 01) is a word with the two bits before it: P at 0, Q at 1, bit i of the word at 1 + i.
 abbrev pub Window : Type 0
 Window = Bits
-
--- the window at place p of a log, a byte a bit; a place (a term of document 01) is an index from 0
-abbrev pub windowAt : List ℕ → ℕ → Window
-windowAt s p j = getD s (p + j) 0
 
 abbrev pub pairBit : Window → PairBit → ℕ
 pairBit w P = w 0
@@ -26,6 +21,10 @@ receivedBit w i = w (suc i)
 -- source bit i, 1 to 24: the received bit exclusive-or Q
 unfoldable pub sourceBit : Window → ℕ → ℕ
 sourceBit w i = receivedBit w i ⊕ pairBit w Q
+
+-- the 24 source bits as one number, the first highest
+unfoldable pub sourceBits : Window → ℕ
+sourceBits w = pack 24 (λ i. sourceBit w (suc i))
 
 -- the exclusive-or of the source bits named
 unfoldable pub sourceSum : Window → List ℕ → ℕ

@@ -31,8 +31,7 @@ fn equation_failure(window: u32, k: usize) -> u32
     requires { ⌜ k < 6 ⌝ }
     ensures { λ r. ⌜ r ≡ failure (unpack 32 window) (line k) ⌝ }
 {
-    let masks = mask_table();
-    u32::count_ones(window & masks[k]) % 2
+    u32::count_ones(window & mask_table()[k]) % 2
 }
 
 // Whether the word of a packed window passes the parity table.

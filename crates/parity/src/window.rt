@@ -2,8 +2,7 @@
 ghost use mathlib.Core.Path.{_≡_};
 ghost use Prim.Native.Nat.{_+_, _%_};
 ghost use lib.ListN.{getD};
-ghost use Rattle.bits.specs.Bits.{pack};
-ghost use Rattle.parity.specs.Word.{windowAt};
+ghost use Rattle.bits.specs.Bits.{bitsAt, pack};
 
 fn wide(b: u8) -> u32
     ensures { λ r. ⌜ r ≡ b ⌝ }
@@ -26,7 +25,7 @@ fn bit_at(log: &[u8], p: usize, j: usize) -> u32
 
 // The window at place p of a log, packed.
 pub fn packed_window(log: &[u8], p: usize) -> u32
-    ensures { λ r. ⌜ r ≡ pack 32 (windowAt (now (log .entry)) p) ⌝ }
+    ensures { λ r. ⌜ r ≡ pack 32 (bitsAt (now (log .entry)) p) ⌝ }
 {
     let mut window: u32 = 0;
     let mut j: usize = 0;

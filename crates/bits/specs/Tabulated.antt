@@ -1,0 +1,19 @@
+-- Laws. The list of a function's first values holds those values and no more.
+use mathlib.Core.Path.{_≡_, refl, ap₂}
+use mathlib.Core.List.{List, _∷_}
+use Prim.Native.Nat.{ℕ, zero, suc, _<_}
+use native.Mathlib.Omega.{arith}
+use lib.ListN.{getD}
+use Rattle.bits.specs.Tabulate.{tabulate}
+
+pub tabulate-same : (n : ℕ) (f g : ℕ → ℕ) → ((i : ℕ) → i < n → f i ≡ g i) → tabulate n f ≡ tabulate n g
+unfolding tabulate
+tabulate-same zero f g h = refl
+tabulate-same (suc n) f g h =
+    ap₂ (λ (x : ℕ) (xs : List ℕ). x ∷ xs) (h 0 (omega arith)) (tabulate-same n (λ i. f (suc i)) (λ i. g (suc i)) (λ i l. h (suc i) (omega arith)))
+
+pub tabulate-at : (n : ℕ) (f : ℕ → ℕ) (i : ℕ) → i < n → getD (tabulate n f) i 0 ≡ f i
+unfolding tabulate
+tabulate-at zero f i h = absurd (omega arith)
+tabulate-at (suc n) f zero h = refl
+tabulate-at (suc n) f (suc i) h = tabulate-at n (λ j. f (suc j)) i (omega arith)

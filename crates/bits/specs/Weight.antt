@@ -1,0 +1,12 @@
+-- Laws. How many of a run's bits are 1.
+use mathlib.Core.Path.{_≡_, ap}
+use Prim.Native.Nat.{ℕ, zero, suc, _%_, _<_, _≤_}
+use native.Mathlib.Decide.{ℕ-discrete}
+use native.Mathlib.Omega.{arith}
+use Rattle.bits.specs.Bits.{Bits, weight}
+use Rattle.bits.specs.Tests.{below-suc}
+
+pub weight-at : (n : ℕ) (u : Bits) (j : ℕ) → j < n → u j % 2 ≤ weight n u
+unfolding weight
+weight-at zero u j h = absurd (omega arith)
+weight-at (suc n) u j h = below-suc (λ i. u i % 2 ≤ weight (suc n) u) n (λ i l. omega (arith, weight-at n u i l)) (omega arith) j h

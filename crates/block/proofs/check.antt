@@ -1,0 +1,2 @@
+-- The laws that the proofs of `check` cite.
+pub mod Packed

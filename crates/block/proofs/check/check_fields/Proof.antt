@@ -1,0 +1,186 @@
+-- `check_fields` meets its contract, by the ways through the table.
+use mathlib.Core.Path.{_≡_, refl, sym, ap, _∙_}
+use mathlib.Core.Bool.{true}
+use mathlib.Core.List.{List}
+use Prim.Native.Nat.{ℕ, _/_, _%_}
+use native.Mathlib.Nat.{add-zero}
+use native.Mathlib.Omega.{arith}
+use borrow.Author.Needs.{needs}
+use borrow.Author.Tests.{not-true, not-false}
+use Rattle.bits.specs.Bits.{bitsAt, pack, unpack}
+use Rattle.parity.specs.Word.{sourceBits}
+use Rattle.block.specs.Block.{Block, preamble, count, subframeNumber, endsAlike}
+use Rattle.block.specs.Check.{checkedAnswer}
+use Rattle.block.proofs.check.Packed.{packedAt, field-at}
+use Rattle.block.specs.Ways.{way-0, way-6, way-7-2, way-7-10, way-8-none, way-8-above, way-9}
+use Rattle.block.proofs.check.check_fields.Statement.{statement}
+use Rattle.block.proofs.check.check_fields.Tie as tie
+
+-- ---- what is known after word 1, the two ends and word 2
+
+abbrev block1 : tie.After-source-bits → Block
+block1 c = bitsAt (c .before .before .before .args .log .now) (c .before .before .before .args .p)
+
+preamble-of : (c : tie.After-source-bits) → c .source-bits .result / 0x10000 % 0x100 ≡ preamble (block1 c)
+unfolding preamble
+preamble-of c =
+    let a = c .before .before .before .args in
+    field-at (a .log .now) (a .p) 1 0 8 16 refl (c .source-bits .result)
+    (c .source-bits .ensures
+    ∙ ap (λ (w : ℕ). sourceBits (unpack 32 w)) (c .before .packed-window .ensures ∙ ap (λ (n : ℕ). pack 32 (bitsAt (a .log .now) n)) (sym (add-zero (a .p)))))
+
+passed1 : (c : tie.Else1) → preamble (block1 (c .before)) ≡ 0b10001011
+passed1 c = sym (preamble-of (c .before)) ∙ c .if1 .left
+
+abbrev block2 : tie.Else2 → Block
+block2 c = block1 (c .before .before .before)
+
+passed2 : (c : tie.Else2) → endsAlike (block2 c) 2 ≡ true
+passed2 c = sym (c .before .ends-alike .ensures) ∙ not-false _ (c .if2 .left)
+
+passed3 : (c : tie.Else3) → endsAlike (block2 (c .before .before)) 10 ≡ true
+passed3 c = sym (c .before .ends-alike2 .ensures) ∙ not-false _ (c .if3 .left)
+
+module _ (c : tie.After-source-bits2) where
+  abbrev else3 : tie.Else3
+  else3 = c .before .before
+
+  abbrev else2 : tie.Else2
+  else2 = else3 .before .before
+
+  abbrev else1 : tie.Else1
+  else1 = else2 .before .before
+
+  abbrev log : List ℕ
+  log = else1 .before .before .before .before .args .log .now
+
+  abbrev place : ℕ
+  place = else1 .before .before .before .before .args .p
+
+  word2 : c .source-bits2 .result ≡ sourceBits (unpack 32 (packedAt log place 2))
+  word2 = c .source-bits2 .ensures ∙ ap (λ (w : ℕ). sourceBits (unpack 32 w)) (c .before .packed-window2 .ensures)
+
+  number-of : c .source-bits2 .result / 4 % 8 ≡ subframeNumber (block2 else2)
+  unfolding subframeNumber
+  number-of = field-at log place 2 19 3 2 refl (c .source-bits2 .result) word2
+
+  count-of : c .source-bits2 .result / 0x80 % 0x20000 ≡ count (block2 else2)
+  unfolding count
+  count-of = field-at log place 2 0 17 7 refl (c .source-bits2 .result) word2
+
+-- ---- the needs
+
+packed-window-requires : tie.Need-packed-window-requires
+packed-window-requires c κs = search needs
+
+source-bits-requires : tie.Need-source-bits-requires
+source-bits-requires c κs = search needs
+
+refused-requires : tie.Need-refused-requires
+refused-requires c κs = search needs
+
+returns : tie.Need-returns
+returns c =
+    let d = c .before .before in
+    c .refused .ensures ∙ way-6 (block1 d) (λ e. c .before .if1 .taken (preamble-of d ∙ e))
+
+ends-alike-requires : tie.Need-ends-alike-requires
+ends-alike-requires c κs = search needs
+
+refused-requires-2 : tie.Need-refused-requires-2
+refused-requires-2 c κs = search needs
+
+returns-2 : tie.Need-returns-2
+returns-2 c =
+    let d = c .before .before in
+    c .refused2 .ensures ∙ way-7-2 (block1 (d .before .before)) (passed1 (d .before)) (sym (d .ends-alike .ensures) ∙ not-true _ (c .before .if2 .taken))
+
+ends-alike-requires-2 : tie.Need-ends-alike-requires-2
+ends-alike-requires-2 c κs = search needs
+
+refused-requires-3 : tie.Need-refused-requires-3
+refused-requires-3 c κs = search needs
+
+returns-3 : tie.Need-returns-3
+returns-3 c =
+    let d = c .before .before in
+    c .refused3 .ensures
+    ∙ way-7-10 (block2 (d .before)) (passed1 (d .before .before .before)) (passed2 (d .before)) (sym (d .ends-alike2 .ensures) ∙ not-true _ (c .before .if3 .taken))
+
+add-packed-window : tie.Need-add-packed-window
+add-packed-window c = search needs
+
+packed-window-requires-2 : tie.Need-packed-window-requires-2
+packed-window-requires-2 c κs = search needs
+
+source-bits-requires-2 : tie.Need-source-bits-requires-2
+source-bits-requires-2 c κs = search needs
+
+cast-refused : tie.Need-cast-refused
+cast-refused c = search needs
+
+refused-requires-4 : tie.Need-refused-requires-4
+refused-requires-4 c κs = search needs
+
+returns-4 : tie.Need-returns-4
+returns-4 c =
+    let d = c .before .before in
+    c .refused4 .ensures ∙ way-8-none (block2 (else2 d)) (passed1 (else1 d)) (passed2 (else2 d)) (passed3 (else3 d)) _ (number-of d) (c .before .if4 .taken)
+
+cast-refused-2 : tie.Need-cast-refused-2
+cast-refused-2 c = search needs
+
+refused-requires-5 : tie.Need-refused-requires-5
+refused-requires-5 c κs = search needs
+
+returns-5 : tie.Need-returns-5
+returns-5 c =
+    let d = c .before .before .before in
+    c .refused5 .ensures
+    ∙ way-8-above (block2 (else2 d)) (passed1 (else1 d)) (passed2 (else2 d)) (passed3 (else3 d)) _ (number-of d) (c .before .before .if4 .left) (omega (arith, c .before .if5 .taken))
+
+cast-refused-3 : tie.Need-cast-refused-3
+cast-refused-3 c = search needs
+
+refused-requires-6 : tie.Need-refused-requires-6
+refused-requires-6 c κs = search needs
+
+returns-6 : tie.Need-returns-6
+returns-6 c =
+    let d = c .before .before .before .before in
+    c .refused6 .ensures
+    ∙ way-9 (block2 (else2 d)) (passed1 (else1 d)) (passed2 (else2 d)) (passed3 (else3 d)) _ (number-of d) (c .before .before .before .if4 .left) (omega (arith, c .before .before .if5 .left)) _ (count-of d) (omega (arith, c .before .if6 .taken))
+
+returns-7 : tie.Need-returns-7
+unfolding checkedAnswer
+returns-7 c =
+    let d = c .before .before .before in
+    way-0 (block2 (else2 d)) (passed1 (else1 d)) (passed2 (else2 d)) (passed3 (else3 d)) _ (number-of d) (c .before .before .if4 .left) (omega (arith, c .before .if5 .left)) _ (count-of d) (omega (arith, c .if6 .left))
+
+pub check-fields-spec : {M : Type 1} → statement M
+check-fields-spec =
+    tie.close
+    (tie.spec
+    packed-window-requires
+    source-bits-requires
+    refused-requires
+    returns
+    ends-alike-requires
+    refused-requires-2
+    returns-2
+    ends-alike-requires-2
+    refused-requires-3
+    returns-3
+    add-packed-window
+    packed-window-requires-2
+    source-bits-requires-2
+    cast-refused
+    refused-requires-4
+    returns-4
+    cast-refused-2
+    refused-requires-5
+    returns-5
+    cast-refused-3
+    refused-requires-6
+    returns-6
+    returns-7)

@@ -1,0 +1,90 @@
+-- `first_broken` meets its contract. The invariant: no word before word k breaks the table.
+use mathlib.Core.Path.{_≡_, sym, ap, _∙_}
+use mathlib.Core.Bool.{Bool, true, false, not}
+use Prim.Native.Nat.{ℕ, _-_, _<_, _≤_}
+use native.Mathlib.Omega.{arith}
+use borrow.Author.Count.{below-more}
+use borrow.Author.Needs.{needs}
+use Rattle.bits.specs.Bits.{bitsAt, unpack}
+use Rattle.bits.specs.Firsts.{first-here, first-none}
+use Rattle.parity.specs.Word.{passes}
+use Rattle.block.specs.Block.{window}
+use Rattle.block.specs.Check.{firstBroken}
+use Rattle.block.proofs.check.Packed.{passes-at}
+use Rattle.block.proofs.check.first_broken.Statement.{statement}
+use Rattle.block.proofs.check.first_broken.Tie as tie
+
+abbrev Inv-loop : tie.InvT-loop
+Inv-loop log p k₀ k = (1 ≤ k) × ((k ≤ 11) × ((j : ℕ) → j < k → 1 ≤ j → not (passes (window (bitsAt log p) j)) ≡ false))
+
+abbrev μ-loop : tie.MeasureT-loop
+μ-loop log p k₀ k = 11 - k
+
+loop-holds : tie.Need-loop-holds Inv-loop μ-loop
+loop-holds c = (omega arith, (omega arith, λ j h l. absurd (omega arith)))
+
+sub-packed-window : tie.Need-sub-packed-window Inv-loop μ-loop
+sub-packed-window c = omega arith
+
+mul-packed-window : tie.Need-mul-packed-window Inv-loop μ-loop
+mul-packed-window c = omega arith
+
+add-packed-window : tie.Need-add-packed-window Inv-loop μ-loop
+add-packed-window c = omega arith
+
+packed-window-requires : tie.Need-packed-window-requires Inv-loop μ-loop
+packed-window-requires c κs = search needs
+
+word-passes-requires : tie.Need-word-passes-requires Inv-loop μ-loop
+word-passes-requires c κs = search needs
+
+-- what the word check answered, of the block's own word
+answered : (c : tie.After-word-passes Inv-loop μ-loop)
+    → not (passes (window (bitsAt (c .before .before .before .before .before .args .log .now) (c .before .before .before .before .before .args .p)) (c .before .before .before .loop .k)))
+    ≡ not (c .word-passes .result)
+answered c =
+    let a = c .before .before .before .before .before .args in
+    ap not
+    (sym
+    (c .word-passes .ensures ∙ ap (λ (w : ℕ). passes (unpack 32 w)) (c .before .packed-window .ensures) ∙ passes-at (a .log .now) (a .p) (c .before .before .before .loop .k)))
+
+returns : tie.Need-returns Inv-loop μ-loop
+unfolding firstBroken
+returns c =
+    let at = c .before .before .before .before in
+    sym (first-here _ 1 10 (at .loop .k) (omega arith) (omega arith) (λ j l h. at .loop .inv .1 .1 j h l) (answered (c .before) ∙ c .if1 .taken))
+
+add-k : tie.Need-add-k Inv-loop μ-loop
+add-k c = omega arith
+
+loop-less : tie.Need-loop-less Inv-loop μ-loop
+loop-less c = omega arith
+
+loop-again : tie.Need-loop-again Inv-loop μ-loop
+loop-again c =
+    let at = c .before .before .before .before in
+    (omega arith, (omega arith, below-more _ (at .loop .k) (at .loop .inv .1 .1) (λ l. answered (c .before) ∙ c .if1 .left)))
+
+returns-2 : tie.Need-returns-2 Inv-loop μ-loop
+unfolding firstBroken
+returns-2 c =
+    let all : c .before .loop .k ≡ 11 = omega arith in
+    all ∙ sym (first-none _ 1 10 (λ j l h. c .before .loop .inv .1 .1 j (omega arith) l))
+
+pub first-broken-spec : {M : Type 1} → statement M
+first-broken-spec =
+    tie.close
+    (tie.spec
+    Inv-loop
+    μ-loop
+    loop-holds
+    sub-packed-window
+    mul-packed-window
+    add-packed-window
+    packed-window-requires
+    word-passes-requires
+    returns
+    add-k
+    loop-less
+    loop-again
+    returns-2)

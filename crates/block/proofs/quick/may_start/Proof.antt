@@ -1,0 +1,58 @@
+-- `may_start` meets its contract.
+use mathlib.Core.Path.{_≡_, sym, _∙_}
+use mathlib.Core.Bool.{false}
+use Prim.Native.Nat.{ℕ}
+use borrow.Author.Needs.{needs}
+use borrow.Author.Tests.{eq-eqb, ne-eqb}
+use Rattle.bits.specs.Bits.{bitsAt}
+use Rattle.block.specs.Block.{Block}
+use Rattle.block.specs.Quick.{preambleBytes, pairIs, mayStart}
+use Rattle.block.proofs.quick.may_start.Statement.{statement}
+use Rattle.block.proofs.quick.may_start.Tie as tie
+
+module _ (b : Block) (x : ℕ) (q : x ≡ preambleBytes b) where
+  upright : x ≡ 0x0100000001000101 → pairIs b 0 ≡ mayStart b
+  unfolding mayStart
+  upright e = sym (rw (← q, e))
+
+  module _ (n : x ≡ 0x0100000001000101 → ⊥) where
+    inverted : x ≡ 0x0001010100010000 → pairIs b 1 ≡ mayStart b
+    unfolding mayStart
+    inverted e = sym (rw (← q, ne-eqb x 0x0100000001000101 n, eq-eqb x 0x0001010100010000 e))
+
+    neither : (x ≡ 0x0001010100010000 → ⊥) → false ≡ mayStart b
+    unfolding mayStart
+    neither m = sym (rw (← q, ne-eqb x 0x0100000001000101 n, ne-eqb x 0x0001010100010000 m))
+
+abbrev block : tie.After-preamble-bytes → Block
+block c = bitsAt (c .before .before .args .log .now) (c .before .before .args .p)
+
+preamble-bytes-requires : tie.Need-preamble-bytes-requires
+preamble-bytes-requires c κs = search needs
+
+pair-is-requires : tie.Need-pair-is-requires
+pair-is-requires c κs = search needs
+
+returns : tie.Need-returns
+returns c =
+    let d = c .before .before in
+    c .pair-is .ensures ∙ upright (block d) (d .preamble-bytes .result) (d .preamble-bytes .ensures) (c .before .if1 .taken)
+
+pair-is-requires-2 : tie.Need-pair-is-requires-2
+pair-is-requires-2 c κs = search needs
+
+returns-2 : tie.Need-returns-2
+returns-2 c =
+    let d = c .before .before .before in
+    c .pair-is2 .ensures
+    ∙ inverted (block d) (d .preamble-bytes .result) (d .preamble-bytes .ensures) (c .before .before .if1 .left) (c .before .if2 .taken)
+
+returns-3 : tie.Need-returns-3
+returns-3 c =
+    let d = c .before .before in
+    neither (block d) (d .preamble-bytes .result) (d .preamble-bytes .ensures) (c .before .if1 .left) (c .if2 .left)
+
+pub may-start-spec : {M : Type 1} → statement M
+may-start-spec =
+    tie.close
+    (tie.spec preamble-bytes-requires pair-is-requires returns pair-is-requires-2 returns-2 returns-3)

@@ -1,0 +1,38 @@
+-- Definitions. The block, and what its words hold (document 01, 'What the recorder hands over' and 'Words 1 and 2').
+use mathlib.Core.Bool.{Bool, _&&_}
+use mathlib.Core.List.{List}
+use Prim.Native.Nat.{ℕ, _+_, _-_, _*_, _/_, _%_}
+use lib.Dec.{eqb}
+use Rattle.bits.specs.Bits.{Bits, pack}
+use Rattle.bits.specs.Tabulate.{tabulate}
+use Rattle.parity.specs.Word.{Window, receivedBit, sourceBit}
+
+-- A block (a term of document 01) is 302 bits: the start pair, which is the last two bits of the word before, then ten words of 30
+-- bits. The block at place p of a log s is `bitsAt s p`.
+abbrev pub Block : Type 0
+Block = Bits
+
+-- window k, 1 to 10: word k with the two bits before it
+abbrev pub window : Block → ℕ → Window
+window b k j = b (30 * (k - 1) + j)
+
+-- n source bits of word k from bit i on, as a number
+unfoldable pub field : Block → ℕ → ℕ → ℕ → ℕ
+field b k i n = pack n (λ j. sourceBit (window b k) (i + j))
+
+unfoldable pub preamble : Block → ℕ
+preamble b = field b 1 1 8
+
+unfoldable pub count : Block → ℕ
+count b = field b 2 1 17
+
+unfoldable pub subframeNumber : Block → ℕ
+subframeNumber b = field b 2 20 3
+
+-- the last two received bits of word k equal the start pair
+unfoldable pub endsAlike : Block → ℕ → Bool
+endsAlike b k = eqb (receivedBit (window b k) 29) (b 0) && eqb (receivedBit (window b k) 30) (b 1)
+
+-- the 240 source bits: the 24 of each word in order, fillers too, each word by its own Q
+unfoldable pub source : Block → List ℕ
+source b = tabulate 240 (λ j. sourceBit (window b (1 + j / 24)) (1 + j % 24))

@@ -1,0 +1,55 @@
+-- Definitions. The block check, as document 01's table has it ('Numbers by the place of the check').
+use mathlib.Core.Bool.{Bool, not, _||_}
+use mathlib.Core.List.{List}
+use Prim.Native.Nat.{ℕ, _+_}
+use lib.Dec.{eqb, ltb}
+use lib.ListN.{length}
+use Rattle.bits.specs.Bits.{bitsAt}
+use Rattle.bits.specs.First.{firstFrom}
+use Rattle.parity.specs.Word.{passes}
+use Rattle.answer.specs.Answer.{Answer, accepted, refuseIf, isAccepted, refusalAnswer}
+use Rattle.block.specs.Block.{Block, window, preamble, count, subframeNumber, endsAlike}
+use Rattle.block.specs.declared.check.Checked.{Checked}
+use Rattle.block.specs.declared.check.Checked.the-variants.{Accepted, Refused}
+
+-- what the code's answer says
+unfoldable pub checkedAnswer : Checked → Answer (Unit {0})
+checkedAnswer Accepted = accepted tt
+checkedAnswer (Refused r) = refusalAnswer r
+
+-- the index in the block of its first byte above 1, or 302
+unfoldable pub firstAbove : Block → ℕ
+firstAbove b = firstFrom (λ i. ltb 1 (b i)) 0 302
+
+-- the first word that breaks the parity table, or 11
+unfoldable pub firstBroken : Block → ℕ
+firstBroken b = firstFrom (λ k. not (passes (window b k))) 1 10
+
+-- numbers 6 to 9
+unfoldable pub fieldCheck : Block → Answer (Unit {0})
+fieldCheck b =
+    refuseIf (not (eqb (preamble b) 0b10001011)) 6 0
+    (refuseIf (not (endsAlike b 2)) 7 2
+    (refuseIf (not (endsAlike b 10)) 7 10
+    (refuseIf (eqb (subframeNumber b) 0 || ltb 5 (subframeNumber b)) 8 (subframeNumber b)
+    (refuseIf (ltb 100799 (count b)) 9 (count b)
+    (accepted tt)))))
+
+-- numbers 2, 4 and 5, then those, of the block b at place p
+unfoldable pub bitCheck : ℕ → Block → Answer (Unit {0})
+bitCheck p b =
+    refuseIf (ltb (firstAbove b) 302) 2 (p + firstAbove b)
+    (refuseIf (not (eqb (b 0) (b 1))) 4 p
+    (refuseIf (ltb (firstBroken b) 11) 5 (firstBroken b)
+    (fieldCheck b)))
+
+-- numbers 1 and 3, then those, at place p of the log s
+unfoldable pub blockCheck : List ℕ → ℕ → Answer (Unit {0})
+blockCheck s p =
+    refuseIf (ltb 65536 (length s)) 1 (length s)
+    (refuseIf (ltb (length s) (p + 302)) 3 p
+    (bitCheck p (bitsAt s p)))
+
+-- whether the block check accepts
+unfoldable pub acceptedAt : List ℕ → ℕ → Bool
+acceptedAt s p = isAccepted (blockCheck s p)

@@ -1,0 +1,13 @@
+-- The files of this folder: the definitions, then the laws.
+pub mod Block
+pub mod Check
+pub mod Compare
+pub mod Quick
+pub mod Answers
+pub mod Ways
+pub mod Acceptance
+pub mod Flips
+pub mod Source
+pub mod Inverse
+pub mod Uniqueness
+pub mod Start

@@ -1,0 +1,84 @@
+-- Laws. The ways through document 01's table: what the block check answers where a line is the first whose condition holds.
+use mathlib.Core.Path.{_≡_, sym, ap, _∙_}
+use mathlib.Core.Bool.{true, false}
+use mathlib.Core.List.{List}
+use Prim.Native.Nat.{ℕ, _+_, _<_, _≤_}
+use native.Mathlib.Omega.{arith}
+use borrow.Author.Tests.{eq-eqb, ne-eqb, lt-ltb, le-ltb}
+use lib.ListN.{length}
+use Rattle.bits.specs.Bits.{bitsAt}
+use Rattle.answer.specs.Answer.{Answer, accepted, refused, refuseIf}
+use Rattle.block.specs.Block.{Block, preamble, count, subframeNumber, endsAlike}
+use Rattle.block.specs.Check.{firstAbove, firstBroken, fieldCheck, bitCheck, blockCheck}
+
+-- ---- numbers 6 to 9; n and m are the subframe number and the count
+
+module _ (b : Block) where
+  pub way-6 : (preamble b ≡ 0b10001011 → ⊥) → refused 6 0 ≡ fieldCheck b
+  unfolding fieldCheck refuseIf
+  way-6 h = sym (rw (ne-eqb (preamble b) 0b10001011 h))
+
+  module _ (e : preamble b ≡ 0b10001011) where
+    pub way-7-2 : endsAlike b 2 ≡ false → refused 7 2 ≡ fieldCheck b
+    unfolding fieldCheck refuseIf
+    way-7-2 u = sym (rw (eq-eqb (preamble b) 0b10001011 e, u))
+
+    module _ (u : endsAlike b 2 ≡ true) where
+      pub way-7-10 : endsAlike b 10 ≡ false → refused 7 10 ≡ fieldCheck b
+      unfolding fieldCheck refuseIf
+      way-7-10 v = sym (rw (eq-eqb (preamble b) 0b10001011 e, u, v))
+
+      module _ (v : endsAlike b 10 ≡ true) (n : ℕ) (q : n ≡ subframeNumber b) where
+        pub way-8-none : n ≡ 0 → refused 8 n ≡ fieldCheck b
+        unfolding fieldCheck refuseIf
+        way-8-none z = sym (rw (eq-eqb (preamble b) 0b10001011 e, u, v, ← q, eq-eqb n 0 z))
+
+        pub way-8-above : (n ≡ 0 → ⊥) → 5 < n → refused 8 n ≡ fieldCheck b
+        unfolding fieldCheck refuseIf
+        way-8-above z l = sym (rw (eq-eqb (preamble b) 0b10001011 e, u, v, ← q, ne-eqb n 0 z, lt-ltb 5 n l))
+
+        module _ (z : n ≡ 0 → ⊥) (l : n ≤ 5) (m : ℕ) (r : m ≡ count b) where
+          pub way-9 : 100799 < m → refused 9 m ≡ fieldCheck b
+          unfolding fieldCheck refuseIf
+          way-9 h = sym (rw (eq-eqb (preamble b) 0b10001011 e, u, v, ← q, ne-eqb n 0 z, le-ltb 5 n l, ← r, lt-ltb 100799 m h))
+
+          pub way-0 : m ≤ 100799 → accepted tt ≡ fieldCheck b
+          unfolding fieldCheck refuseIf
+          way-0 h = sym (rw (eq-eqb (preamble b) 0b10001011 e, u, v, ← q, ne-eqb n 0 z, le-ltb 5 n l, ← r, le-ltb 100799 m h))
+
+-- ---- numbers 2, 4 and 5; i and k are the first byte above 1 and the first word that breaks the table
+
+module _ (p : ℕ) (b : Block) (i : ℕ) (q : i ≡ firstAbove b) where
+  pub way-2 : i < 302 → refused 2 (p + i) ≡ bitCheck p b
+  unfolding bitCheck refuseIf
+  way-2 h = sym (rw (← q, lt-ltb i 302 h))
+
+  module _ (h : 302 ≤ i) where
+    pub way-4 : (b 0 ≡ b 1 → ⊥) → refused 4 p ≡ bitCheck p b
+    unfolding bitCheck refuseIf
+    way-4 u = sym (rw (← q, le-ltb i 302 h, ne-eqb (b 0) (b 1) u))
+
+    module _ (e : b 0 ≡ b 1) (k : ℕ) (r : k ≡ firstBroken b) where
+      pub way-5 : k < 11 → refused 5 k ≡ bitCheck p b
+      unfolding bitCheck refuseIf
+      way-5 l = sym (rw (← q, le-ltb i 302 h, eq-eqb (b 0) (b 1) e, ← r, lt-ltb k 11 l))
+
+      pub way-fields : 11 ≤ k → fieldCheck b ≡ bitCheck p b
+      unfolding bitCheck refuseIf
+      way-fields l = sym (rw (← q, le-ltb i 302 h, eq-eqb (b 0) (b 1) e, ← r, le-ltb k 11 l))
+
+-- ---- numbers 1 and 3
+
+module _ (s : List ℕ) (p : ℕ) where
+  pub way-1 : 65536 < length s → refused 1 (length s) ≡ blockCheck s p
+  unfolding blockCheck refuseIf
+  way-1 h = sym (rw (lt-ltb 65536 (length s) h))
+
+  module _ (h : length s ≤ 65536) where
+    pub way-3 : length s < p + 302 → refused 3 p ≡ blockCheck s p
+    unfolding blockCheck refuseIf
+    way-3 l = sym (rw (le-ltb 65536 (length s) h, lt-ltb (length s) (p + 302) l))
+
+    pub way-bits : p + 302 ≤ length s → bitCheck p (bitsAt s p) ≡ blockCheck s p
+    unfolding blockCheck refuseIf
+    way-bits l = sym (rw (le-ltb 65536 (length s) h, le-ltb (length s) (p + 302) l))

@@ -1,0 +1,128 @@
+// The block check: accepted, or refused by the numbers 1 to 9 in the order of document 01's table.
+use answer::Refusal;
+ghost use mathlib.Core.Path.{_≡_};
+ghost use Prim.Native.Nat.{_+_, _≤_};
+ghost use lib.ListN.{length};
+ghost use Rattle.bits.specs.Bits.{bitsAt};
+ghost use Rattle.answer.specs.Answer as Answer;
+ghost use Rattle.block.specs.Block.{endsAlike};
+ghost use Rattle.block.specs.Check.{checkedAnswer, firstAbove, firstBroken, fieldCheck, bitCheck, blockCheck};
+
+// The answer of the block check.
+pub enum Checked {
+    Accepted,
+    Refused(Refusal),
+}
+
+fn refused(number: u8, detail: usize) -> Checked
+    ensures { λ r. ⌜ checkedAnswer r ≡ Answer.refused number detail ⌝ }
+{
+    Checked::Refused(Refusal { number, detail })
+}
+
+// The index in the block at p of its first byte above 1, or 302.
+fn first_above(log: &[u8], p: usize) -> usize
+    requires { ⌜ p + 302 ≤ length (now log) ⌝ }
+    ensures { λ r. ⌜ r ≡ firstAbove (bitsAt (now (log .entry)) p) ⌝ }
+{
+    let mut i: usize = 0;
+    while i < 302 {
+        if 1 < log[p + i] {
+            return i;
+        }
+        i += 1;
+    }
+    i
+}
+
+// The first word of the block at p that breaks the parity table, or 11.
+fn first_broken(log: &[u8], p: usize) -> usize
+    requires { ⌜ p + 302 ≤ length (now log) ⌝ }
+    ensures { λ r. ⌜ r ≡ firstBroken (bitsAt (now (log .entry)) p) ⌝ }
+{
+    let mut k: usize = 1;
+    while k <= 10 {
+        if !parity::word_passes(parity::packed_window(log, p + 30 * (k - 1))) {
+            return k;
+        }
+        k += 1;
+    }
+    k
+}
+
+// Whether the last two bits of word k of the block at p equal the start pair.
+fn ends_alike(log: &[u8], p: usize, k: usize) -> bool
+    requires { ⌜ (p + 302 ≤ length (now log)) × ((1 ≤ k) × (k ≤ 10)) ⌝ }
+    ensures { λ r. ⌜ r ≡ endsAlike (bitsAt (now (log .entry)) p) k ⌝ }
+{
+    let end = p + 30 * k;
+    if log[end] != log[p] {
+        return false;
+    }
+    log[end + 1] == log[p + 1]
+}
+
+// Numbers 6 to 9, of the block at p.
+fn check_fields(log: &[u8], p: usize) -> Checked
+    requires { ⌜ p + 302 ≤ length (now log) ⌝ }
+    ensures { λ r. ⌜ checkedAnswer r ≡ fieldCheck (bitsAt (now (log .entry)) p) ⌝ }
+{
+    let first = parity::source_bits(parity::packed_window(log, p));
+    if first / 0x10000 % 0x100 != 0b10001011 {
+        return refused(6, 0);
+    }
+    if !ends_alike(log, p, 2) {
+        return refused(7, 2);
+    }
+    if !ends_alike(log, p, 10) {
+        return refused(7, 10);
+    }
+    let second = parity::source_bits(parity::packed_window(log, p + 30));
+    let number = second / 4 % 8;
+    if number == 0 {
+        return refused(8, number as usize);
+    }
+    if 5 < number {
+        return refused(8, number as usize);
+    }
+    let count = second / 0x80 % 0x20000;
+    if 100799 < count {
+        return refused(9, count as usize);
+    }
+    Checked::Accepted
+}
+
+// Numbers 2, 4 and 5, then those, of the block at p.
+fn check_bits(log: &[u8], p: usize) -> Checked
+    requires { ⌜ p + 302 ≤ length (now log) ⌝ }
+    ensures { λ r. ⌜ checkedAnswer r ≡ bitCheck p (bitsAt (now (log .entry)) p) ⌝ }
+{
+    let i = first_above(log, p);
+    if i < 302 {
+        return refused(2, p + i);
+    }
+    if log[p] != log[p + 1] {
+        return refused(4, p);
+    }
+    let k = first_broken(log, p);
+    if k < 11 {
+        return refused(5, k);
+    }
+    check_fields(log, p)
+}
+
+// The block check at place p of a log.
+pub fn check_block(log: &[u8], p: usize) -> Checked
+    ensures { λ r. ⌜ checkedAnswer r ≡ blockCheck (now (log .entry)) p ⌝ }
+{
+    if 65536 < log.len() {
+        return refused(1, log.len());
+    }
+    if log.len() < 302 {
+        return refused(3, p);
+    }
+    if log.len() - 302 < p {
+        return refused(3, p);
+    }
+    check_bits(log, p)
+}
