@@ -1,5 +1,5 @@
--- Laws. The lines of the table, and that an answer holds no more than the refusal's number and detail.
-use mathlib.Core.Path.{_≡_, refl, ap, ap₂, sym, _∙_}
+-- Laws. The lines of the table, and that a refusal is its number and its detail.
+use mathlib.Core.Path.{_≡_, refl, sym, ap, ap₂}
 use mathlib.Core.Bool.{Bool, true, false, false≢true}
 use mathlib.Core.Logic.{_↔_}
 use Prim.Native.Nat.{ℕ}
@@ -7,29 +7,26 @@ use Rattle.answer.specs.Answer.{Answer, accepted, refused, number, detai
 use Rattle.answer.specs.declared.Refusal.{Refusal}
 
 module _ {A : Type 0} where
-  -- a line whose condition holds, and one whose condition fails
-  pub line-refuses : (t : Bool) (n d : ℕ) (below : Answer A) → t ≡ true → refuseIf t n d below ≡ refused n d
-  unfolding refuseIf
-  line-refuses t n d below e = rw e
-
-  pub line-passes : (t : Bool) (n d : ℕ) (below : Answer A) → t ≡ false → refuseIf t n d below ≡ below
-  unfolding refuseIf
-  line-passes t n d below e = rw e
-
   pub refused-not : (n d : ℕ) (a : A) → refused n d ≡ accepted a → ⊥
   unfolding isAccepted
   refused-not n d a e = false≢true (ap isAccepted e)
 
-  -- an answer is accepted exactly when no line refuses it
+  -- a call is accepted exactly when the line's condition fails and the lines below accept it
   pub line-accepts : (t : Bool) (n d : ℕ) (below : Answer A) (a : A) → (refuseIf t n d below ≡ accepted a) ↔ ((t ≡ false) × (below ≡ accepted a))
   unfolding refuseIf
   line-accepts true n d below a = (λ e. absurd (refused-not n d a e), λ e. absurd (false≢true (sym (e .0))))
   line-accepts false n d below a = (λ e. (refl, e), λ e. e .1)
 
+  -- an answer is accepted with a value, or not accepted
   pub isAccepted-true : (x : Answer A) → isAccepted x ≡ true → (a : A) × (x ≡ accepted a)
   unfolding isAccepted
   isAccepted-true (accepted a) e = (a, refl)
   isAccepted-true (refused n d) e = absurd (false≢true e)
+
+  pub isAccepted-false : (x : Answer A) → ((a : A) → x ≡ accepted a → ⊥) → isAccepted x ≡ false
+  unfolding isAccepted
+  isAccepted-false (accepted a) f = absurd (f a refl)
+  isAccepted-false (refused n d) f = refl
 
   pub refusal-injective : (r q : Refusal) → refusalAnswer {A = A} r ≡ refusalAnswer {A = A} q → r ≡ q
   unfolding number detail

@@ -14,6 +14,10 @@ below-suc P n before last k h = go (ℕ-discrete k n)
     go (yes e) = subst P (sym e) last
     go (no e) = before k (omega arith)
 
+pub is-true : (t : Bool) → T t → t ≡ true
+is-true true t = refl
+is-true false t = absurd t
+
 pub and-left : (a b : Bool) → T (a && b) → T a
 and-left true b t = tt
 and-left false b t = t

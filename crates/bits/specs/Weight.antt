@@ -1,7 +1,5 @@
 -- Laws. How many of a run's bits are 1.
-use mathlib.Core.Path.{_≡_, ap}
 use Prim.Native.Nat.{ℕ, zero, suc, _%_, _<_, _≤_}
-use native.Mathlib.Decide.{ℕ-discrete}
 use native.Mathlib.Omega.{arith}
 use Rattle.bits.specs.Bits.{Bits, weight}
 use Rattle.bits.specs.Tests.{below-suc}

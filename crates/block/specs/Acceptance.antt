@@ -1,22 +1,22 @@
 -- Laws. Acceptance spelled out: a block is accepted exactly when it stands in a log and conforms, condition by condition.
 use mathlib.Core.Path.{_≡_, refl, sym, ap, _∙_}
-use mathlib.Core.Bool.{Bool, false, not, _||_}
+use mathlib.Core.Bool.{true, not}
 use mathlib.Core.List.{List}
 use mathlib.Core.Logic.{_↔_}
-use Prim.Native.Nat.{ℕ, _<_, _≤_}
+use Prim.Native.Nat.{ℕ, _≤_}
 use native.Mathlib.Omega.{arith}
 use borrow.Author.Tests.{ltb-false, le-ltb, eqb-true, eqb-false, not-false}
 use lib.Dec.{eqb, ltb}
 use Rattle.bits.specs.Bits.{AreBits, bitsAt}
 use Rattle.bits.specs.Tests.{or-false}
 use Rattle.bits.specs.Firsts.{first-before, first-none}
-use Rattle.parity.specs.Word.{passes, syndrome}
+use Rattle.parity.specs.Word.{passes}
 use Rattle.parity.specs.Equations.{passes-syndrome}
 use Rattle.answer.specs.Answer.{accepted}
 use Rattle.answer.specs.Lines.{line-accepts}
 use Rattle.block.specs.Block.{Block, window, count, subframeNumber}
 use Rattle.block.specs.Check.{firstAbove, firstBroken, fieldCheck, bitCheck, blockCheck}
-use Rattle.block.specs.Compare.{Stands, Accepted, Conforms}
+use Rattle.block.specs.Compare.{Stands, Accepted, WordsPass, Conforms}
 use Rattle.block.specs.Ways.{way-0, way-fields, way-bits}
 
 module _ (b : Block) where
@@ -30,17 +30,20 @@ module _ (b : Block) where
   unfolding firstAbove
   none-bits h i l = omega (arith, ltb-false 1 (b i) (first-before (λ i. ltb 1 (b i)) 0 302 i (omega arith) (omega arith) (omega arith)))
 
-  words-none : ((k : ℕ) → 1 ≤ k → k ≤ 10 → syndrome (window b k) ≡ 0) → firstBroken b ≡ 11
-  unfolding firstBroken
-  words-none h = first-none _ 1 10 (λ k l m. ap not (passes-syndrome (window b k) .1 (h k l (omega arith))))
+  pub word-passes : WordsPass b → (k : ℕ) → 1 ≤ k → k ≤ 10 → passes (window b k) ≡ true
+  word-passes h k l m = passes-syndrome (window b k) .1 (h k l m)
 
-  none-words : 11 ≤ firstBroken b → (k : ℕ) → 1 ≤ k → k ≤ 10 → syndrome (window b k) ≡ 0
+  words-none : WordsPass b → firstBroken b ≡ 11
+  unfolding firstBroken
+  words-none h = first-none _ 1 10 (λ k l m. ap not (word-passes h k l (omega arith)))
+
+  none-words : 11 ≤ firstBroken b → WordsPass b
   unfolding firstBroken
   none-words h k l m = passes-syndrome (window b k) .0 (not-false _ (first-before (λ k. not (passes (window b k))) 1 10 k l (omega arith) (omega arith)))
 
   -- ---- the lines of the table
 
-  fields-conform : fieldCheck b ≡ accepted tt → b 0 ≡ b 1 → ((k : ℕ) → 1 ≤ k → k ≤ 10 → syndrome (window b k) ≡ 0) → Conforms b
+  fields-conform : fieldCheck b ≡ accepted tt → b 0 ≡ b 1 → WordsPass b → Conforms b
   unfolding fieldCheck
   fields-conform e pair words =
       let l6 = line-accepts _ 6 0 _ tt .0 e in

@@ -7,8 +7,8 @@ use Rattle.bits.specs.Bits.{Bits, pack}
 use Rattle.bits.specs.Tabulate.{tabulate}
 use Rattle.parity.specs.Word.{Window, receivedBit, sourceBit}
 
--- A block (a term of document 01) is 302 bits: the start pair, which is the last two bits of the word before, then ten words of 30
--- bits. The block at place p of a log s is `bitsAt s p`.
+-- A block (a term of document 01) is 302 bits: the start pair (its term for the last two bits of the word before), then ten words of
+-- 30 bits. The block at place p of a log s is `bitsAt s p`.
 abbrev pub Block : Type 0
 Block = Bits
 

@@ -22,10 +22,14 @@ pub record Stands (s : List ℕ) (p : ℕ) : Type 0 where
 abbrev pub Accepted : List ℕ → ℕ → Type 0
 Accepted s p = blockCheck s p ≡ accepted tt
 
+-- the syndromes of the ten words are 0
+abbrev pub WordsPass : Block → Type 0
+WordsPass b = (k : ℕ) → 1 ≤ k → k ≤ 10 → syndrome (window b k) ≡ 0
+
 -- what the block check asks of a block of bits, condition by condition
 pub record Conforms (b : Block) : Type 0 where
   pub pair : b 0 ≡ b 1
-  pub words : (k : ℕ) → 1 ≤ k → k ≤ 10 → syndrome (window b k) ≡ 0
+  pub words : WordsPass b
   pub preamble-right : preamble b ≡ 0b10001011
   pub ends-2 : endsAlike b 2 ≡ true
   pub ends-10 : endsAlike b 10 ≡ true

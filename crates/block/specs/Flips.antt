@@ -1,7 +1,7 @@
 -- Laws. Demand 3, error detection: an accepted block with at least one flipped bit and at most three in any window is refused 4 at its
 -- own place where its start pair is unequal, else 5 at the lowest window that holds a flipped bit.
-use mathlib.Core.Path.{_≡_, refl, sym, ap, _∙_}
-use mathlib.Core.Bool.{Bool, true, false, not, cond}
+use mathlib.Core.Path.{_≡_, sym, ap, _∙_}
+use mathlib.Core.Bool.{Bool, true, not, cond}
 use mathlib.Core.List.{List}
 use Prim.Native.Nat.{ℕ, _+_, _-_, _*_, _/_, _%_, _<_, _≤_}
 use native.Mathlib.Decide.{ℕ-discrete}
@@ -15,14 +15,13 @@ use Rattle.bits.specs.Firsts.{first-same, first-from, first-least, first-taken,
 use Rattle.bits.specs.Weight.{weight-at}
 use Rattle.parity.specs.Word.{passes}
 use Rattle.parity.specs.Local.{passes-local}
-use Rattle.parity.specs.Equations.{passes-syndrome}
 use Rattle.parity.specs.Flips.{few-flips}
 use Rattle.answer.specs.Answer.{refused}
 use Rattle.block.specs.Block.{Block, window}
 use Rattle.block.specs.Check.{firstAbove, firstBroken, bitCheck, blockCheck}
 use Rattle.block.specs.Compare.{Stands, Accepted, Conforms, Flipped, flipsIn, FewFlips, lowestTouched, flipsAnswer, Lowest, marked, differing}
 use Rattle.block.specs.Ways.{way-4, way-5}
-use Rattle.block.specs.Acceptance.{bits-none, stands-bits, acceptance}
+use Rattle.block.specs.Acceptance.{bits-none, word-passes, stands-bits, acceptance}
 
 -- ---- the windows that hold flipped bits
 
@@ -56,9 +55,6 @@ module _ (f : Bits) (b c : Block) (flips : Flipped f b c) (conforms : Conforms b
   flipped-window : (k : ℕ) → k ≤ 10 → Same 32 (window c k) (xor (window b k) (window f k))
   flipped-window k h j l = ap (λ (x : ℕ). x % 2) (flips (30 * (k - 1) + j) (omega arith))
 
-  word-passes : (k : ℕ) → 1 ≤ k → k ≤ 10 → passes (window b k) ≡ true
-  word-passes k l h = passes-syndrome (window b k) .1 (conforms .words k l h)
-
   broken-touched : (k : ℕ) → 1 ≤ k → k ≤ 10 → not (passes (window c k)) ≡ ltb 0 (flipsIn f k)
   unfolding flipsIn
   broken-touched k l h = go (ℕ-discrete (flipsIn f k) 0)
@@ -71,11 +67,11 @@ module _ (f : Bits) (b c : Block) (flips : Flipped f b c) (conforms : Conforms b
 
       go : Dec (flipsIn f k ≡ 0) → not (passes (window c k)) ≡ ltb 0 (flipsIn f k)
       go (yes e) =
-          ap not (passes-local (window c k) (window b k) (untouched e) ∙ word-passes k l h) ∙ sym (le-ltb 0 (flipsIn f k) (omega arith))
+          ap not (passes-local (window c k) (window b k) (untouched e) ∙ word-passes b (conforms .words) k l h) ∙ sym (le-ltb 0 (flipsIn f k) (omega arith))
       go (no e) =
           ap not
           (passes-local (window c k) (xor (window b k) (window f k)) (flipped-window k h)
-          ∙ few-flips (window b k) (window f k) (word-passes k l h) (omega arith) (few .most k l h))
+          ∙ few-flips (window b k) (window f k) (word-passes b (conforms .words) k l h) (omega arith) (few .most k l h))
           ∙ sym (lt-ltb 0 (flipsIn f k) (omega arith))
 
   first-touched : lowestTouched f ≡ firstBroken c

@@ -1,8 +1,8 @@
 -- Laws. Demand 3, inverse: an accepted block's inverse is accepted, with the same 240 source bits.
 use mathlib.Core.Path.{_≡_, sym, ap, ap₂, _∙_}
-use mathlib.Core.Bool.{Bool, _&&_}
+use mathlib.Core.Bool.{_&&_}
 use mathlib.Core.List.{List}
-use Prim.Native.Nat.{ℕ, _+_, _-_, _*_, _%_, _<_, _≤_}
+use Prim.Native.Nat.{ℕ, suc, _+_, _-_, _*_, _%_, _<_, _≤_}
 use native.Mathlib.Decide.{ℕ-discrete}
 use native.Mathlib.Omega.{arith}
 use borrow.Author.Tests.{eq-eqb, ne-eqb}
@@ -12,7 +12,7 @@ use Rattle.bits.specs.Bits.{_⊕_, AreBits, Same, bitsAt, inverse}
 use Rattle.bits.specs.Pack.{pack-same}
 use Rattle.parity.specs.Word.{sourceBit}
 use Rattle.parity.specs.Local.{syndrome-local}
-use Rattle.parity.specs.Inverse.{syndrome-inverse}
+use Rattle.parity.specs.Inverse.{syndrome-inverse, sourceBit-inverse}
 use Rattle.block.specs.Block.{Block, window, field, preamble, count, subframeNumber, endsAlike, source}
 use Rattle.block.specs.Compare.{Accepted, Conforms, Inverse}
 use Rattle.block.specs.Acceptance.{acceptance}
@@ -25,10 +25,7 @@ module _ (b c : Block) (swapped : Inverse b c) where
   pub inverse-words : SameWords b c
   unfolding sourceBit
   inverse-words k l h i m n =
-      sym (ap₂ _⊕_ (swapped (30 * (k - 1) + _) (omega arith)) (swapped (30 * (k - 1) + 1) (omega arith)) ∙ both (window b k _) (window b k 1))
-    where
-      both : (x y : ℕ) → (x ⊕ 1) ⊕ (y ⊕ 1) ≡ x ⊕ y
-      both x y = omega arith
+      sym (ap₂ _⊕_ (swapped (30 * (k - 1) + suc i) (omega arith)) (swapped (30 * (k - 1) + 1) (omega arith)) ∙ sourceBit-inverse (window b k) i)
 
   inverse-window : (k : ℕ) → k ≤ 10 → Same 32 (window c k) (inverse (window b k))
   inverse-window k h j l = ap (λ (x : ℕ). x % 2) (swapped (30 * (k - 1) + j) (omega arith))

@@ -14,10 +14,13 @@ byteNumber (suc n) u = byteNumber n u * 256 + u n
 unfoldable pub preambleBytes : Block → ℕ
 preambleBytes b = byteNumber 8 (λ i. b (2 + i))
 
--- both bytes of the start pair are x
-unfoldable pub pairIs : Block → ℕ → Bool
-pairIs b x = eqb (b 0) x && eqb (b 1) x
+-- both bytes p and q of a start pair are x
+unfoldable pub pairIs : ℕ → ℕ → ℕ → Bool
+pairIs p q x = eqb p x && eqb q x
 
--- the preamble 10001011 after the pair 00, or its inverse after 11
+-- x is the eight bytes 10001011 and the pair p, q is 00, or x is their inverse and the pair 11
+unfoldable pub startRight : ℕ → ℕ → ℕ → Bool
+startRight x p q = cond (eqb x 0x0100000001000101) (pairIs p q 0) (eqb x 0x0001010100010000 && pairIs p q 1)
+
 unfoldable pub mayStart : Block → Bool
-mayStart b = cond (eqb (preambleBytes b) 0x0100000001000101) (pairIs b 0) (eqb (preambleBytes b) 0x0001010100010000 && pairIs b 1)
+mayStart b = startRight (preambleBytes b) (b 0) (b 1)

@@ -1,5 +1,5 @@
 -- Laws. Demand 3, uniqueness: two accepted blocks carry the same 240 source bits exactly when they are equal or inverse.
-use mathlib.Core.Path.{_≡_, refl, sym, ap, ap₂, subst, _∙_}
+use mathlib.Core.Path.{_≡_, refl, sym, ap₂, subst, _∙_}
 use mathlib.Core.List.{List}
 use mathlib.Core.Logic.{_↔_, _⊎_, inl, inr, ⊎-elim}
 use Prim.Native.Nat.{ℕ, zero, suc, _+_, _-_, _*_, _/_, _<_, _≤_}
@@ -7,11 +7,10 @@ use native.Mathlib.Decide.{ℕ-discrete}
 use native.Mathlib.Omega.{arith}
 use Rattle.bits.specs.Bits.{_⊕_, AreBits, bitsAt, inverse}
 use Rattle.parity.specs.Word.{sourceBit}
-use Rattle.parity.specs.Equations.{passes-syndrome}
 use Rattle.parity.specs.OneWord.{one-word}
 use Rattle.block.specs.Block.{Block, window, source}
 use Rattle.block.specs.Compare.{Stands, Accepted, Conforms, Equal, Inverse}
-use Rattle.block.specs.Acceptance.{acceptance}
+use Rattle.block.specs.Acceptance.{word-passes, acceptance}
 use Rattle.block.specs.Source.{SameWords, source-words}
 use Rattle.block.specs.Inverse.{inverse-bits, inverse-words, inverse-conforms}
 
@@ -29,7 +28,7 @@ module _
     unfolding SameWindow
     by-pair k l h p q =
         one-word (window b k) (window c k) (λ j m. bits-b (30 * (k - 1) + j) (omega arith)) (λ j m. bits-c (30 * (k - 1) + j) (omega arith))
-        (passes-syndrome (window b k) .1 (conforms-b .words k l h)) (passes-syndrome (window c k) .1 (conforms-c .words k l h))
+        (word-passes b (conforms-b .words) k l h) (word-passes c (conforms-c .words) k l h)
         (record { pairP = p; pairQ = q; source = same k l h })
 
     next : (k j : ℕ) → j < 2 → SameWindow (suc k) → window b (suc (suc k)) j ≡ window c (suc (suc k)) j

@@ -1,13 +1,12 @@
 -- Laws. The ways through document 01's table: what the block check answers where a line is the first whose condition holds.
-use mathlib.Core.Path.{_≡_, sym, ap, _∙_}
+use mathlib.Core.Path.{_≡_, sym}
 use mathlib.Core.Bool.{true, false}
 use mathlib.Core.List.{List}
 use Prim.Native.Nat.{ℕ, _+_, _<_, _≤_}
-use native.Mathlib.Omega.{arith}
 use borrow.Author.Tests.{eq-eqb, ne-eqb, lt-ltb, le-ltb}
 use lib.ListN.{length}
 use Rattle.bits.specs.Bits.{bitsAt}
-use Rattle.answer.specs.Answer.{Answer, accepted, refused, refuseIf}
+use Rattle.answer.specs.Answer.{accepted, refused, refuseIf}
 use Rattle.block.specs.Block.{Block, preamble, count, subframeNumber, endsAlike}
 use Rattle.block.specs.Check.{firstAbove, firstBroken, fieldCheck, bitCheck, blockCheck}
 

@@ -31,7 +31,7 @@ fn preamble_bytes(log: &[u8], p: usize) -> u64
 // Whether both bytes of the start pair of the block at p are x.
 fn pair_is(log: &[u8], p: usize, x: u8) -> bool
     requires { ⌜ p + 302 ≤ length (now log) ⌝ }
-    ensures { λ r. ⌜ r ≡ pairIs (bitsAt (now (log .entry)) p) x ⌝ }
+    ensures { λ r. ⌜ r ≡ pairIs (bitsAt (now (log .entry)) p 0) (bitsAt (now (log .entry)) p 1) x ⌝ }
 {
     if log[p] != x {
         return false;

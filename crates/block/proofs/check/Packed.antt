@@ -1,14 +1,14 @@
 -- Laws. What the packed window of a word says of the block.
-use mathlib.Core.Path.{_≡_, sym, ap, ap₂, _∙_}
+use mathlib.Core.Path.{_≡_, ap, _∙_}
 use mathlib.Core.List.{List}
 use Prim.Native.Nat.{ℕ, suc, _+_, _-_, _*_, _/_, _%_, _^_, _<_}
 use native.Mathlib.Omega.{arith}
-use Rattle.bits.specs.Bits.{_⊕_, Same, bitsAt, pack, unpack}
+use Rattle.bits.specs.Bits.{Same, bitsAt, pack, unpack}
 use Rattle.bits.specs.Places.{bitsAt-later}
 use Rattle.bits.specs.Xor.{odd-only}
 use Rattle.bits.specs.Pack.{pack-same, unpack-pack}
 use Rattle.bits.specs.Parts.{pack-part}
-use Rattle.parity.specs.Word.{Window, sourceBit, sourceBits, passes}
+use Rattle.parity.specs.Word.{sourceBit, sourceBits, passes}
 use Rattle.parity.specs.Local.{passes-local, passes-packed}
 use Rattle.block.specs.Block.{window, field}
 

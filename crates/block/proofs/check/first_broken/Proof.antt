@@ -1,6 +1,7 @@
 -- `first_broken` meets its contract. The invariant: no word before word k breaks the table.
 use mathlib.Core.Path.{_≡_, sym, ap, _∙_}
-use mathlib.Core.Bool.{Bool, true, false, not}
+use mathlib.Core.Bool.{false, not}
+use mathlib.Core.List.{List}
 use Prim.Native.Nat.{ℕ, _-_, _<_, _≤_}
 use native.Mathlib.Omega.{arith}
 use borrow.Author.Count.{below-more}
@@ -10,7 +11,7 @@ use Rattle.bits.specs.Firsts.{first-here, first-none}
 use Rattle.parity.specs.Word.{passes}
 use Rattle.block.specs.Block.{window}
 use Rattle.block.specs.Check.{firstBroken}
-use Rattle.block.proofs.check.Packed.{passes-at}
+use Rattle.block.proofs.check.Packed.{packedAt, passes-at}
 use Rattle.block.proofs.check.first_broken.Statement.{statement}
 use Rattle.block.proofs.check.first_broken.Tie as tie
 
@@ -39,14 +40,20 @@ word-passes-requires : tie.Need-word-passes-requires Inv-loop μ-loop
 word-passes-requires c κs = search needs
 
 -- what the word check answered, of the block's own word
-answered : (c : tie.After-word-passes Inv-loop μ-loop)
-    → not (passes (window (bitsAt (c .before .before .before .before .before .args .log .now) (c .before .before .before .before .before .args .p)) (c .before .before .before .loop .k)))
-    ≡ not (c .word-passes .result)
-answered c =
-    let a = c .before .before .before .before .before .args in
-    ap not
-    (sym
-    (c .word-passes .ensures ∙ ap (λ (w : ℕ). passes (unpack 32 w)) (c .before .packed-window .ensures) ∙ passes-at (a .log .now) (a .p) (c .before .before .before .loop .k)))
+module _ (c : tie.After-word-passes Inv-loop μ-loop) where
+  abbrev log : List ℕ
+  log = c .before .before .before .before .before .args .log .now
+
+  abbrev place : ℕ
+  place = c .before .before .before .before .before .args .p
+
+  abbrev word : ℕ
+  word = c .before .before .before .loop .k
+
+  answered : not (passes (window (bitsAt log place) word)) ≡ not (c .word-passes .result)
+  answered =
+      let packed : c .before .packed-window .result ≡ packedAt log place word = c .before .packed-window .ensures in
+      sym (ap not (c .word-passes .ensures ∙ ap (λ (w : ℕ). passes (unpack 32 w)) packed ∙ passes-at log place word))
 
 returns : tie.Need-returns Inv-loop μ-loop
 unfolding firstBroken

@@ -6,22 +6,22 @@ use borrow.Author.Needs.{needs}
 use borrow.Author.Tests.{eq-eqb, ne-eqb}
 use Rattle.bits.specs.Bits.{bitsAt}
 use Rattle.block.specs.Block.{Block}
-use Rattle.block.specs.Quick.{preambleBytes, pairIs, mayStart}
+use Rattle.block.specs.Quick.{preambleBytes, pairIs, startRight, mayStart}
 use Rattle.block.proofs.quick.may_start.Statement.{statement}
 use Rattle.block.proofs.quick.may_start.Tie as tie
 
 module _ (b : Block) (x : ℕ) (q : x ≡ preambleBytes b) where
-  upright : x ≡ 0x0100000001000101 → pairIs b 0 ≡ mayStart b
-  unfolding mayStart
+  upright : x ≡ 0x0100000001000101 → pairIs (b 0) (b 1) 0 ≡ mayStart b
+  unfolding mayStart startRight
   upright e = sym (rw (← q, e))
 
   module _ (n : x ≡ 0x0100000001000101 → ⊥) where
-    inverted : x ≡ 0x0001010100010000 → pairIs b 1 ≡ mayStart b
-    unfolding mayStart
+    inverted : x ≡ 0x0001010100010000 → pairIs (b 0) (b 1) 1 ≡ mayStart b
+    unfolding mayStart startRight
     inverted e = sym (rw (← q, ne-eqb x 0x0100000001000101 n, eq-eqb x 0x0001010100010000 e))
 
     neither : (x ≡ 0x0001010100010000 → ⊥) → false ≡ mayStart b
-    unfolding mayStart
+    unfolding mayStart startRight
     neither m = sym (rw (← q, ne-eqb x 0x0100000001000101 n, ne-eqb x 0x0001010100010000 m))
 
 abbrev block : tie.After-preamble-bytes → Block
@@ -36,7 +36,8 @@ pair-is-requires c κs = search needs
 returns : tie.Need-returns
 returns c =
     let d = c .before .before in
-    c .pair-is .ensures ∙ upright (block d) (d .preamble-bytes .result) (d .preamble-bytes .ensures) (c .before .if1 .taken)
+    let pair : c .pair-is .result ≡ pairIs (block d 0) (block d 1) 0 = c .pair-is .ensures in
+    pair ∙ upright (block d) (d .preamble-bytes .result) (d .preamble-bytes .ensures) (c .before .if1 .taken)
 
 pair-is-requires-2 : tie.Need-pair-is-requires-2
 pair-is-requires-2 c κs = search needs
@@ -44,7 +45,8 @@ pair-is-requires-2 c κs = search needs
 returns-2 : tie.Need-returns-2
 returns-2 c =
     let d = c .before .before .before in
-    c .pair-is2 .ensures
+    let pair : c .pair-is2 .result ≡ pairIs (block d 0) (block d 1) 1 = c .pair-is2 .ensures in
+    pair
     ∙ inverted (block d) (d .preamble-bytes .result) (d .preamble-bytes .ensures) (c .before .before .if1 .left) (c .before .if2 .taken)
 
 returns-3 : tie.Need-returns-3

@@ -14,11 +14,11 @@ use Rattle.block.proofs.quick.pair_is.Statement.{statement}
 use Rattle.block.proofs.quick.pair_is.Tie as tie
 
 module _ (s : List ℕ) (p x : ℕ) where
-  unlike : (getD s p 0 ≡ x → ⊥) → false ≡ pairIs (bitsAt s p) x
+  unlike : (getD s p 0 ≡ x → ⊥) → false ≡ pairIs (bitsAt s p 0) (bitsAt s p 1) x
   unfolding pairIs
   unlike h = sym (rw (bitsAt-first s p, ne-eqb _ _ h))
 
-  by-second : getD s p 0 ≡ x → eqb (getD s (p + 1) 0) x ≡ pairIs (bitsAt s p) x
+  by-second : getD s p 0 ≡ x → eqb (getD s (p + 1) 0) x ≡ pairIs (bitsAt s p 0) (bitsAt s p 1) x
   unfolding pairIs
   by-second h = sym (rw (bitsAt-first s p, eq-eqb _ _ h))
 
