@@ -28,6 +28,13 @@ module _ {A : Type 0} where
   isAccepted-false (accepted a) f = absurd (f a refl)
   isAccepted-false (refused n d) f = refl
 
+  -- where no line has number 0, only an accepted answer has
+  pub line-zero : (t : Bool) (n d : ℕ) (below : Answer A) (a : A) → (n ≡ 0 → ⊥) → (number below ≡ 0 → below ≡ accepted a)
+      → number (refuseIf t n d below) ≡ 0 → refuseIf t n d below ≡ accepted a
+  unfolding number refuseIf
+  line-zero true n d below a h f e = absurd (h e)
+  line-zero false n d below a h f e = f e
+
   pub refusal-injective : (r q : Refusal) → refusalAnswer {A = A} r ≡ refusalAnswer {A = A} q → r ≡ q
   unfolding number detail
   refusal-injective r q e =

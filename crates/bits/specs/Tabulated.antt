@@ -1,10 +1,15 @@
 -- Laws. The list of a function's first values holds those values and no more.
-use mathlib.Core.Path.{_≡_, refl, ap₂}
+use mathlib.Core.Path.{_≡_, refl, ap, ap₂}
 use mathlib.Core.List.{List, _∷_}
 use Prim.Native.Nat.{ℕ, zero, suc, _<_}
 use native.Mathlib.Omega.{arith}
-use lib.ListN.{getD}
+use lib.ListN.{length, getD}
 use Rattle.bits.specs.Tabulate.{tabulate}
+
+pub tabulate-length : (n : ℕ) (f : ℕ → ℕ) → length (tabulate n f) ≡ n
+unfolding tabulate
+tabulate-length zero f = refl
+tabulate-length (suc n) f = ap suc (tabulate-length n (λ i. f (suc i)))
 
 pub tabulate-same : (n : ℕ) (f g : ℕ → ℕ) → ((i : ℕ) → i < n → f i ≡ g i) → tabulate n f ≡ tabulate n g
 unfolding tabulate

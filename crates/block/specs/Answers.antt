@@ -4,9 +4,10 @@ use mathlib.Core.Bool.{true, false}
 use mathlib.Core.List.{List}
 use mathlib.Core.Logic.{_↔_}
 use Prim.Native.Nat.{ℕ}
-use Rattle.answer.specs.Answer.{isAccepted}
-use Rattle.answer.specs.Lines.{refused-not, isAccepted-true, isAccepted-false, refusal-injective}
-use Rattle.block.specs.Check.{checkedAnswer, blockCheck, acceptedAt}
+use native.Mathlib.Omega.{arith}
+use Rattle.answer.specs.Answer.{number, isAccepted}
+use Rattle.answer.specs.Lines.{refused-not, line-zero, isAccepted-true, isAccepted-false, refusal-injective}
+use Rattle.block.specs.Check.{checkedAnswer, fieldCheck, bitCheck, blockCheck, acceptedAt}
 use Rattle.block.specs.Compare.{Accepted}
 use Rattle.block.specs.declared.check.Checked.{Checked}
 use Rattle.block.specs.declared.check.Checked.the-variants as Variant
@@ -17,6 +18,23 @@ checkedAnswer-injective Variant.Accepted Variant.Accepted e = refl
 checkedAnswer-injective Variant.Accepted (Variant.Refused q) e = absurd (refused-not (q .number) (q .detail) tt (sym e))
 checkedAnswer-injective (Variant.Refused r) Variant.Accepted e = absurd (refused-not (r .number) (r .detail) tt e)
 checkedAnswer-injective (Variant.Refused r) (Variant.Refused q) e = ap Variant.Refused (refusal-injective r q e)
+
+-- the number alone tells whether a block is accepted
+pub number-zero : (s : List ℕ) (p : ℕ) → (number (blockCheck s p) ≡ 0) ↔ Accepted s p
+unfolding blockCheck bitCheck fieldCheck number
+number-zero s p = (
+  line-zero _ 1 _ _ tt (λ e. omega arith)
+      (line-zero _ 3 _ _ tt (λ e. omega arith)
+      (line-zero _ 2 _ _ tt (λ e. omega arith)
+      (line-zero _ 4 _ _ tt (λ e. omega arith)
+      (line-zero _ 5 _ _ tt (λ e. omega arith)
+      (line-zero _ 6 _ _ tt (λ e. omega arith)
+      (line-zero _ 7 _ _ tt (λ e. omega arith)
+      (line-zero _ 7 _ _ tt (λ e. omega arith)
+      (line-zero _ 8 _ _ tt (λ e. omega arith)
+      (line-zero _ 9 _ _ tt (λ e. omega arith) (λ e. refl)))))))))),
+  ap number,
+)
 
 module _ (s : List ℕ) (p : ℕ) where
   pub acceptedAt-true : (acceptedAt s p ≡ true) ↔ Accepted s p

@@ -20,9 +20,11 @@ window b k j = b (30 * (k - 1) + j)
 unfoldable pub field : Block → ℕ → ℕ → ℕ → ℕ
 field b k i n = pack n (λ j. sourceBit (window b k) (i + j))
 
+-- word 1, the telemetry word, begins with the preamble
 unfoldable pub preamble : Block → ℕ
 preamble b = field b 1 1 8
 
+-- word 2, the handover word, holds the count in bits 1 to 17 and the subframe number in bits 20 to 22
 unfoldable pub count : Block → ℕ
 count b = field b 2 1 17
 

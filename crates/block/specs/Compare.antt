@@ -1,12 +1,13 @@
 -- Definitions. What demand 3 compares (document 01, 'What demand 3 compares'): blocks of two logs, flipped bits, and the inverse.
 use mathlib.Core.Path.{_≡_}
-use mathlib.Core.Bool.{Bool, true, not, cond}
+use mathlib.Core.Bool.{Bool, true, not, _&&_, cond}
 use mathlib.Core.List.{List}
-use Prim.Native.Nat.{ℕ, _+_, _%_, _<_, _≤_}
+use Prim.Native.Nat.{ℕ, _+_, _-_, _%_, _<_, _≤_}
 use lib.Dec.{eqb, ltb}
-use lib.ListN.{length}
-use Rattle.bits.specs.Bits.{Bits, AreBits, bitsAt, xor, inverse, weight}
+use lib.ListN.{length, getD}
+use Rattle.bits.specs.Bits.{_⊕_, Bits, AreBits, bitsAt, xor, inverse, weight}
 use Rattle.bits.specs.First.{firstFrom}
+use Rattle.bits.specs.Tabulate.{tabulate}
 use Rattle.parity.specs.Word.{syndrome}
 use Rattle.answer.specs.Answer.{Answer, accepted, refused}
 use Rattle.block.specs.Block.{Block, window, preamble, count, subframeNumber, endsAlike}
@@ -83,3 +84,7 @@ marked t i = cond (t i) 1 0
 
 abbrev pub differing : Block → Block → Bits
 differing b c = marked (λ i. not (eqb (b i) (c i)))
+
+-- the log s with those bits of the block at p flipped whose index in the block the test takes
+unfoldable pub flipLog : (ℕ → Bool) → List ℕ → ℕ → List ℕ
+flipLog t s p = tabulate (length s) (λ n. cond (not (ltb n p) && t (n - p)) (getD s n 0 ⊕ 1) (getD s n 0))

@@ -1,17 +1,18 @@
 -- Laws. Demand 3, error detection: an accepted block with at least one flipped bit and at most three in any window is refused 4 at its
 -- own place where its start pair is unequal, else 5 at the lowest window that holds a flipped bit.
-use mathlib.Core.Path.{_≡_, sym, ap, _∙_}
-use mathlib.Core.Bool.{Bool, true, not, cond}
+use mathlib.Core.Path.{_≡_, refl, sym, ap, _∙_}
+use mathlib.Core.Bool.{Bool, true, false, not, cond}
 use mathlib.Core.List.{List}
 use Prim.Native.Nat.{ℕ, _+_, _-_, _*_, _/_, _%_, _<_, _≤_}
 use native.Mathlib.Decide.{ℕ-discrete}
 use native.Mathlib.Omega.{arith}
 use borrow.Author.Tests.{eq-eqb, ne-eqb, lt-ltb, le-ltb, ltb-true, ltb-false}
 use lib.Dec.{eqb, ltb}
-use lib.ListN.{length}
+use lib.ListN.{length, getD}
 use Rattle.bits.specs.Bits.{_⊕_, Bits, AreBits, Same, bitsAt, xor, weight}
 use Rattle.bits.specs.First.{firstFrom}
 use Rattle.bits.specs.Firsts.{first-same, first-from, first-least, first-taken, first-before}
+use Rattle.bits.specs.Tabulated.{tabulate-length, tabulate-at}
 use Rattle.bits.specs.Weight.{weight-at}
 use Rattle.parity.specs.Word.{passes}
 use Rattle.parity.specs.Local.{passes-local}
@@ -19,7 +20,7 @@ use Rattle.parity.specs.Flips.{few-flips}
 use Rattle.answer.specs.Answer.{refused}
 use Rattle.block.specs.Block.{Block, window}
 use Rattle.block.specs.Check.{firstAbove, firstBroken, bitCheck, blockCheck}
-use Rattle.block.specs.Compare.{Stands, Accepted, Conforms, Flipped, flipsIn, FewFlips, lowestTouched, flipsAnswer, Lowest, marked, differing}
+use Rattle.block.specs.Compare.{Stands, Accepted, Conforms, Flipped, flipsIn, FewFlips, lowestTouched, flipsAnswer, Lowest, marked, differing, flipLog}
 use Rattle.block.specs.Ways.{way-4, way-5}
 use Rattle.block.specs.Acceptance.{bits-none, word-passes, stands-bits, acceptance}
 
@@ -110,9 +111,29 @@ different-refused s t p q accepted stands few =
         go (yes e) = rw (eq-eqb x y e) (omega arith)
         go (no e) = rw (ne-eqb x y e) (omega arith)
 
--- an accepted block with the bits flipped at the indices that a test takes
-pub marked-refused : (s t : List ℕ) (p q : ℕ) (m : ℕ → Bool) → Accepted s p → length t ≤ 65536 → q + 302 ≤ length t
-    → Flipped (marked m) (bitsAt s p) (bitsAt t q) → FewFlips (marked m)
-    → blockCheck t q ≡ flipsAnswer (marked m) q (bitsAt t q)
-marked-refused s t p q m accepted short room flips few =
-    flips-refused s t p q (marked m) accepted (record { short = short; room = room; bits = λ i h. rw (flips i h) (omega arith) }) flips few
+-- any log that holds an accepted block with the bits flipped at the indices that a test takes
+pub marked-refused : (s u : List ℕ) (p q : ℕ) (t : ℕ → Bool) → Accepted s p → length u ≤ 65536 → q + 302 ≤ length u
+    → Flipped (marked t) (bitsAt s p) (bitsAt u q) → FewFlips (marked t)
+    → blockCheck u q ≡ flipsAnswer (marked t) q (bitsAt u q)
+marked-refused s u p q t accepted short room flips few =
+    flips-refused s u p q (marked t) accepted (record { short = short; room = room; bits = λ i h. rw (flips i h) (omega arith) }) flips few
+
+-- the log itself with those bits flipped
+pub flipLog-refused : (s : List ℕ) (p : ℕ) (t : ℕ → Bool) → Accepted s p → FewFlips (marked t)
+    → blockCheck (flipLog t s p) p ≡ flipsAnswer (marked t) p (bitsAt (flipLog t s p) p)
+unfolding flipLog
+flipLog-refused s p t accepted few =
+    marked-refused s (flipLog t s p) p p t accepted (rw (tabulate-length (length s)) (stands .short)) (rw (tabulate-length (length s)) (stands .room)) flips few
+  where
+    stands : Stands s p
+    stands = acceptance s p .0 accepted .0
+
+    by-test : (a : Bool) (x : ℕ) → x < 2 → cond a (x ⊕ 1) x ≡ x ⊕ cond a 1 0
+    by-test true x h = refl
+    by-test false x h = omega arith
+
+    flips : Flipped (marked t) (bitsAt s p) (bitsAt (flipLog t s p) p)
+    flips i h =
+        let here : p + i - p ≡ i = omega arith in
+        tabulate-at (length s) _ (p + i) (omega (arith, stands .room))
+        ∙ rw (le-ltb (p + i) p (omega arith), here) (by-test (t i) (getD s (p + i) 0) (stands .bits i h))

@@ -18,7 +18,7 @@ pub source-at : (b : Block) (k : ℕ) → 1 ≤ k → k ≤ 10 → (i : ℕ) →
     → getD (source b) (24 * (k - 1) + (i - 1)) 0 ≡ sourceBit (window b k) i
 unfolding source
 source-at b k l h i m n =
-    tabulate-at 240 (λ j. sourceBit (window b (1 + j / 24)) (1 + j % 24)) (24 * (k - 1) + (i - 1)) (omega arith)
+    tabulate-at 240 _ (24 * (k - 1) + (i - 1)) (omega arith)
     ∙ ap₂ (λ (x y : ℕ). sourceBit (window b x) y) (omega arith) (omega arith)
 
 pub source-words : (b c : Block) → (source b ≡ source c) ↔ SameWords b c

@@ -9,7 +9,7 @@ use Rattle.bits.specs.Every.{everyBelow}
 use Rattle.bits.specs.Tests.{is-true, everyBelow-at}
 use Rattle.bits.specs.Pack.{unpack-pack}
 use Rattle.parity.specs.Word.{sourceBit}
-use Rattle.block.specs.Block.{Block, window, field, preamble}
+use Rattle.block.specs.Block.{Block, field, preamble}
 use Rattle.block.specs.Compare.{Conforms}
 use Rattle.block.specs.Quick.{byteNumber, preambleBytes, pairIs, startRight, mayStart}
 
@@ -29,7 +29,7 @@ module _ (b : Block) (bits : AreBits 302 b) (conforms : Conforms b) where
   unfolding preamble field sourceBit
   received i h =
       undone (b (2 + i)) (b 1) (unpack 8 0b10001011 i) (bits (2 + i) (omega arith))
-      (ap (λ (x : ℕ). unpack 8 x i) (sym (conforms .preamble-right)) ∙ unpack-pack 8 (λ j. sourceBit (window b 1) (1 + j)) i h
+      (ap (λ (x : ℕ). unpack 8 x i) (sym (conforms .preamble-right)) ∙ unpack-pack 8 _ i h
       ∙ ap (λ (n : ℕ). (b n ⊕ b 1) % 2) (omega arith))
     where
       undone : (x y z : ℕ) → x < 2 → z ≡ (x ⊕ y) % 2 → x ≡ z ⊕ y

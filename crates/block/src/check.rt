@@ -67,8 +67,8 @@ fn check_fields(log: &[u8], p: usize) -> Checked
     requires { ⌜ p + 302 ≤ length (now log) ⌝ }
     ensures { λ r. ⌜ checkedAnswer r ≡ fieldCheck (bitsAt (now (log .entry)) p) ⌝ }
 {
-    let first = parity::source_bits(parity::packed_window(log, p));
-    if first / 0x10000 % 0x100 != 0b10001011 {
+    let telemetry = parity::source_bits(parity::packed_window(log, p));
+    if telemetry / 0x10000 % 0x100 != 0b10001011 {
         return refused(6, 0);
     }
     if !ends_alike(log, p, 2) {
@@ -77,15 +77,15 @@ fn check_fields(log: &[u8], p: usize) -> Checked
     if !ends_alike(log, p, 10) {
         return refused(7, 10);
     }
-    let second = parity::source_bits(parity::packed_window(log, p + 30));
-    let number = second / 4 % 8;
+    let handover = parity::source_bits(parity::packed_window(log, p + 30));
+    let number = handover / 4 % 8;
     if number == 0 {
         return refused(8, number as usize);
     }
     if 5 < number {
         return refused(8, number as usize);
     }
-    let count = second / 0x80 % 0x20000;
+    let count = handover / 0x80 % 0x20000;
     if 100799 < count {
         return refused(9, count as usize);
     }
