@@ -23,16 +23,16 @@ checkedAnswer-injective (Variant.Refused r) (Variant.Refused q) e = ap Variant.R
 pub number-zero : (s : List ℕ) (p : ℕ) → (number (blockCheck s p) ≡ 0) ↔ Accepted s p
 unfolding blockCheck bitCheck fieldCheck number
 number-zero s p = (
-  line-zero _ 1 _ _ tt (λ e. omega arith)
-      (line-zero _ 3 _ _ tt (λ e. omega arith)
-      (line-zero _ 2 _ _ tt (λ e. omega arith)
-      (line-zero _ 4 _ _ tt (λ e. omega arith)
-      (line-zero _ 5 _ _ tt (λ e. omega arith)
-      (line-zero _ 6 _ _ tt (λ e. omega arith)
-      (line-zero _ 7 _ _ tt (λ e. omega arith)
-      (line-zero _ 7 _ _ tt (λ e. omega arith)
-      (line-zero _ 8 _ _ tt (λ e. omega arith)
-      (line-zero _ 9 _ _ tt (λ e. omega arith) (λ e. refl)))))))))),
+  line-zero _ _ _ _ tt (λ e. omega arith)
+      (line-zero _ _ _ _ tt (λ e. omega arith)
+      (line-zero _ _ _ _ tt (λ e. omega arith)
+      (line-zero _ _ _ _ tt (λ e. omega arith)
+      (line-zero _ _ _ _ tt (λ e. omega arith)
+      (line-zero _ _ _ _ tt (λ e. omega arith)
+      (line-zero _ _ _ _ tt (λ e. omega arith)
+      (line-zero _ _ _ _ tt (λ e. omega arith)
+      (line-zero _ _ _ _ tt (λ e. omega arith)
+      (line-zero _ _ _ _ tt (λ e. omega arith) (λ e. refl)))))))))),
   ap number,
 )
 
