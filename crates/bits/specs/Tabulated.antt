@@ -6,6 +6,12 @@ use native.Mathlib.Omega.{arith}
 use lib.ListN.{length, getD}
 use Rattle.bits.specs.Tabulate.{tabulate}
 
+pub tabulate-at : (n : ℕ) (f : ℕ → ℕ) (i : ℕ) → i < n → getD (tabulate n f) i 0 ≡ f i
+unfolding tabulate
+tabulate-at zero f i h = absurd (omega arith)
+tabulate-at (suc n) f zero h = refl
+tabulate-at (suc n) f (suc i) h = tabulate-at n (λ j. f (suc j)) i (omega arith)
+
 pub tabulate-length : (n : ℕ) (f : ℕ → ℕ) → length (tabulate n f) ≡ n
 unfolding tabulate
 tabulate-length zero f = refl
@@ -16,9 +22,3 @@ unfolding tabulate
 tabulate-same zero f g h = refl
 tabulate-same (suc n) f g h =
     ap₂ (λ (x : ℕ) (xs : List ℕ). x ∷ xs) (h 0 (omega arith)) (tabulate-same n (λ i. f (suc i)) (λ i. g (suc i)) (λ i l. h (suc i) (omega arith)))
-
-pub tabulate-at : (n : ℕ) (f : ℕ → ℕ) (i : ℕ) → i < n → getD (tabulate n f) i 0 ≡ f i
-unfolding tabulate
-tabulate-at zero f i h = absurd (omega arith)
-tabulate-at (suc n) f zero h = refl
-tabulate-at (suc n) f (suc i) h = tabulate-at n (λ j. f (suc j)) i (omega arith)
