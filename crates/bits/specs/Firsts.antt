@@ -1,7 +1,7 @@
 -- Laws. The first number that a test takes.
 use mathlib.Core.Path.{_≡_, refl, sym, ap, ap₂, _∙_}
 use mathlib.Core.Bool.{Bool, true, false, cond, false≢true}
-use Prim.Native.Nat.{ℕ, zero, suc, _+_, _-_, _<_, _≤_}
+use Prim.Native.Nat.{ℕ, zero, suc, _+_, _<_, _≤_}
 use native.Mathlib.Decide.{ℕ-discrete}
 use native.Mathlib.Omega.{arith}
 use Rattle.bits.specs.First.{firstFrom}
@@ -63,7 +63,7 @@ module _ (f : ℕ → Bool) where
       ap (λ (t : Bool). cond t k (firstFrom f (suc k) n)) (h k (omega arith) (omega arith))
       ∙ first-none (suc k) n (λ i l m. h i (omega arith) (omega arith)) ∙ omega arith
 
-  -- a loop that has passed over the numbers below k: it stops at k, or has passed over all
+  -- it is k where the test takes k and none before it
   pub first-here : (a n k : ℕ) → a ≤ k → k < a + n → ((i : ℕ) → a ≤ i → i < k → f i ≡ false) → f k ≡ true → firstFrom f a n ≡ k
   first-here a n k l h before e = go (ℕ-discrete (firstFrom f a n) k)
     where

@@ -66,7 +66,7 @@ module _ (b : Block) where
   conform-fields : Conforms b → fieldCheck b ≡ accepted tt
   conform-fields h =
       sym
-      (way-0 b (h .preamble-right) (h .ends-2) (h .ends-10) (subframeNumber b) refl (λ z. omega (arith, h .number-low)) (h .number-high) (count b) refl (h .count-high))
+      (way-0 b (record { preamble-right = h .preamble-right; ends-2 = h .ends-2; ends-10 = h .ends-10 }) (subframeNumber b) refl (λ z. omega (arith, h .number-low)) (h .number-high) (count b) refl (h .count-high))
 
 module _ (s : List ℕ) (p : ℕ) where
   -- the checks of log and place pass

@@ -1,4 +1,4 @@
--- Laws. The code's answer is determined by what it says, and a block is accepted or not.
+-- Laws. The code's answer is determined by what it says; acceptance by the number alone, and as a bool.
 use mathlib.Core.Path.{_≡_, refl, sym, ap}
 use mathlib.Core.Bool.{true, false}
 use mathlib.Core.List.{List}

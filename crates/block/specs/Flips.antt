@@ -3,7 +3,7 @@
 use mathlib.Core.Path.{_≡_, refl, sym, ap, _∙_}
 use mathlib.Core.Bool.{Bool, true, false, not, cond}
 use mathlib.Core.List.{List}
-use Prim.Native.Nat.{ℕ, _+_, _-_, _*_, _/_, _%_, _<_, _≤_}
+use Prim.Native.Nat.{ℕ, _+_, _-_, _*_, _%_, _<_, _≤_}
 use native.Mathlib.Decide.{ℕ-discrete}
 use native.Mathlib.Omega.{arith}
 use borrow.Author.Tests.{eq-eqb, ne-eqb, lt-ltb, le-ltb, ltb-true, ltb-false}
@@ -22,27 +22,26 @@ use Rattle.block.specs.Block.{Block, window}
 use Rattle.block.specs.Check.{firstAbove, firstBroken, bitCheck, blockCheck}
 use Rattle.block.specs.Compare.{Stands, Accepted, Conforms, Flipped, flipsIn, FewFlips, lowestTouched, flipsAnswer, Lowest, marked, differing, flipLog}
 use Rattle.block.specs.Ways.{way-4, way-5}
+use Rattle.block.specs.Windows.{by-windows}
 use Rattle.block.specs.Acceptance.{bits-none, word-passes, stands-bits, acceptance}
 
 -- ---- the windows that hold flipped bits
 
--- a bit of the block stands in a window
-touches : (f : Bits) (i : ℕ) → i < 302 → f i % 2 ≡ 1 → ltb 0 (flipsIn f (1 + (i - 2) / 30)) ≡ true
-unfolding flipsIn
-touches f i h e =
-    let k : ℕ = (i - 2) / 30 in
-    let at : 30 * (1 + k - 1) + (i - 30 * k) ≡ i = omega arith in
-    let one : window f (1 + k) (i - 30 * k) % 2 ≡ 1 = ap (λ (n : ℕ). f n % 2) at ∙ e in
-    lt-ltb 0 (weight 32 (window f (1 + k))) (omega (arith, weight-at 32 (window f (1 + k)) (i - 30 * k) (omega arith)))
+-- a flipped bit stands in a window, and so one of the ten is touched
+touched : (f : Bits) (i : ℕ) → i < 302 → f i % 2 ≡ 1 → lowestTouched f ≤ 10
+unfolding lowestTouched flipsIn
+touched f = by-windows (λ i. f i % 2 ≡ 1 → lowestTouched f ≤ 10) in-window
+  where
+    in-window : (k : ℕ) → 1 ≤ k → k ≤ 10 → (j : ℕ) → j < 32 → window f k j % 2 ≡ 1 → lowestTouched f ≤ 10
+    in-window k l h j m e =
+        let holds : 0 < weight 32 (window f k) = omega (arith, weight-at 32 (window f k) j m) in
+        omega (arith, first-least (λ n. ltb 0 (flipsIn f n)) 1 10 k l (omega arith) (lt-ltb 0 _ holds))
 
 pub lowest : (f : Bits) → FewFlips f → Lowest f (lowestTouched f)
 unfolding lowestTouched
 lowest f few =
     let t : ℕ → Bool = λ k. ltb 0 (flipsIn f k) in
-    let i = few .index in
-    let in-window : 1 + (i - 2) / 30 < 1 + 10 = omega (arith, few .inside) in
-    let high : firstFrom t 1 10 ≤ 10 =
-    omega (arith, first-least t 1 10 (1 + (i - 2) / 30) (omega arith) in-window (touches f i (few .inside) (few .flipped))) in
+    let high : firstFrom t 1 10 ≤ 10 = touched f (few .index) (few .inside) (few .flipped) in
     record {
       low = first-from t 1 10;
       high = high;

@@ -5,6 +5,7 @@ pub mod Compare
 pub mod Quick
 pub mod Answers
 pub mod Ways
+pub mod Windows
 pub mod Acceptance
 pub mod Flips
 pub mod Source

@@ -2,7 +2,7 @@
 use mathlib.Core.Path.{_≡_, refl, sym, ap₂, subst, _∙_}
 use mathlib.Core.List.{List}
 use mathlib.Core.Logic.{_↔_, _⊎_, inl, inr, ⊎-elim}
-use Prim.Native.Nat.{ℕ, zero, suc, _+_, _-_, _*_, _/_, _<_, _≤_}
+use Prim.Native.Nat.{ℕ, zero, suc, _+_, _-_, _*_, _<_, _≤_}
 use native.Mathlib.Decide.{ℕ-discrete}
 use native.Mathlib.Omega.{arith}
 use Rattle.bits.specs.Bits.{_⊕_, AreBits, bitsAt, inverse}
@@ -10,6 +10,7 @@ use Rattle.parity.specs.Word.{sourceBit}
 use Rattle.parity.specs.OneWord.{one-word}
 use Rattle.block.specs.Block.{Block, window, source}
 use Rattle.block.specs.Compare.{Stands, Accepted, Conforms, Equal, Inverse}
+use Rattle.block.specs.Windows.{by-windows}
 use Rattle.block.specs.Acceptance.{word-passes, acceptance}
 use Rattle.block.specs.Source.{SameWords, source-words}
 use Rattle.block.specs.Inverse.{inverse-bits, inverse-words, inverse-conforms}
@@ -37,17 +38,16 @@ module _
         let at : 30 * (suc k - 1) + (30 + j) ≡ 30 * (suc (suc k) - 1) + j = omega arith in
         subst (λ (n : ℕ). b n ≡ c n) at (w (30 + j) (omega arith))
 
-    words : (k : ℕ) → k < 10 → SameWindow (suc k)
-    words zero h = by-pair 1 (omega arith) (omega arith) first (sym (conforms-b .pair) ∙ first ∙ conforms-c .pair)
-    words (suc k) h =
-        by-pair (suc (suc k)) (omega arith) (omega arith) (next k 0 (omega arith) (words k (omega arith))) (next k 1 (omega arith) (words k (omega arith)))
+    words : (k : ℕ) → 1 ≤ k → k ≤ 10 → SameWindow k
+    words zero l h = absurd (omega arith)
+    words (suc zero) l h = by-pair 1 l h first (sym (conforms-b .pair) ∙ first ∙ conforms-c .pair)
+    words (suc (suc k)) l h =
+        let before : SameWindow (suc k) = words (suc k) (omega arith) (omega arith) in
+        by-pair (suc (suc k)) l h (next k 0 (omega arith) before) (next k 1 (omega arith) before)
 
     same-block : Equal b c
     unfolding SameWindow
-    same-block i h =
-        let k : ℕ = (i - 2) / 30 in
-        let at : 30 * (suc k - 1) + (i - 30 * k) ≡ i = omega arith in
-        subst (λ (n : ℕ). b n ≡ c n) at (words k (omega arith) (i - 30 * k) (omega arith))
+    same-block = by-windows (λ n. b n ≡ c n) words
 
 equal-words : (b c : Block) → Equal b c → SameWords b c
 unfolding sourceBit

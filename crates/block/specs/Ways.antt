@@ -4,46 +4,59 @@ use mathlib.Core.Bool.{true, false}
 use mathlib.Core.List.{List}
 use Prim.Native.Nat.{ℕ, _+_, _<_, _≤_}
 use borrow.Author.Tests.{eq-eqb, ne-eqb, lt-ltb, le-ltb}
+use lib.Dec.{ltb}
 use lib.ListN.{length}
 use Rattle.bits.specs.Bits.{bitsAt}
 use Rattle.answer.specs.Answer.{accepted, refused, refuseIf}
 use Rattle.block.specs.Block.{Block, preamble, count, subframeNumber, endsAlike}
 use Rattle.block.specs.Check.{firstAbove, firstBroken, fieldCheck, bitCheck, blockCheck}
 
--- ---- numbers 6 to 9; n and m are the subframe number and the count
+-- ---- numbers 6 and 7
+
+-- the preamble is right, and words 2 and 10 end like the start pair
+pub record Framed (b : Block) : Type 0 where
+  pub preamble-right : preamble b ≡ 0b10001011
+  pub ends-2 : endsAlike b 2 ≡ true
+  pub ends-10 : endsAlike b 10 ≡ true
 
 module _ (b : Block) where
   pub way-6 : (preamble b ≡ 0b10001011 → ⊥) → refused 6 0 ≡ fieldCheck b
   unfolding fieldCheck refuseIf
   way-6 h = sym (rw (ne-eqb (preamble b) 0b10001011 h))
 
-  module _ (e : preamble b ≡ 0b10001011) where
-    pub way-7-2 : endsAlike b 2 ≡ false → refused 7 2 ≡ fieldCheck b
+  pub way-7-2 : preamble b ≡ 0b10001011 → endsAlike b 2 ≡ false → refused 7 2 ≡ fieldCheck b
+  unfolding fieldCheck refuseIf
+  way-7-2 e u = sym (rw (eq-eqb (preamble b) 0b10001011 e, u))
+
+  pub way-7-10 : preamble b ≡ 0b10001011 → endsAlike b 2 ≡ true → endsAlike b 10 ≡ false → refused 7 10 ≡ fieldCheck b
+  unfolding fieldCheck refuseIf
+  way-7-10 e u v = sym (rw (eq-eqb (preamble b) 0b10001011 e, u, v))
+
+-- ---- numbers 8 and 9; n and m are the subframe number and the count
+
+module _ (b : Block) (f : Framed b) (n : ℕ) (q : n ≡ subframeNumber b) where
+  pub way-8-none : n ≡ 0 → refused 8 n ≡ fieldCheck b
+  unfolding fieldCheck refuseIf
+  way-8-none z = sym (rw (eq-eqb (preamble b) 0b10001011 (f .preamble-right), f .ends-2, f .ends-10, ← q, eq-eqb n 0 z))
+
+  module _ (z : n ≡ 0 → ⊥) where
+    pub way-8-above : 5 < n → refused 8 n ≡ fieldCheck b
     unfolding fieldCheck refuseIf
-    way-7-2 u = sym (rw (eq-eqb (preamble b) 0b10001011 e, u))
+    way-8-above l = sym (rw (eq-eqb (preamble b) 0b10001011 (f .preamble-right), f .ends-2, f .ends-10, ← q, ne-eqb n 0 z, lt-ltb 5 n l))
 
-    module _ (u : endsAlike b 2 ≡ true) where
-      pub way-7-10 : endsAlike b 10 ≡ false → refused 7 10 ≡ fieldCheck b
+    module _ (l : n ≤ 5) (m : ℕ) (r : m ≡ count b) where
+      -- the lines above number 9 pass
+      above-9 : refuseIf (ltb 100799 m) 9 m (accepted tt) ≡ fieldCheck b
       unfolding fieldCheck refuseIf
-      way-7-10 v = sym (rw (eq-eqb (preamble b) 0b10001011 e, u, v))
+      above-9 = sym (rw (eq-eqb (preamble b) 0b10001011 (f .preamble-right), f .ends-2, f .ends-10, ← q, ne-eqb n 0 z, le-ltb 5 n l, ← r))
 
-      module _ (v : endsAlike b 10 ≡ true) (n : ℕ) (q : n ≡ subframeNumber b) where
-        pub way-8-none : n ≡ 0 → refused 8 n ≡ fieldCheck b
-        unfolding fieldCheck refuseIf
-        way-8-none z = sym (rw (eq-eqb (preamble b) 0b10001011 e, u, v, ← q, eq-eqb n 0 z))
+      pub way-9 : 100799 < m → refused 9 m ≡ fieldCheck b
+      unfolding refuseIf
+      way-9 h = rw (lt-ltb 100799 m h) at above-9
 
-        pub way-8-above : (n ≡ 0 → ⊥) → 5 < n → refused 8 n ≡ fieldCheck b
-        unfolding fieldCheck refuseIf
-        way-8-above z l = sym (rw (eq-eqb (preamble b) 0b10001011 e, u, v, ← q, ne-eqb n 0 z, lt-ltb 5 n l))
-
-        module _ (z : n ≡ 0 → ⊥) (l : n ≤ 5) (m : ℕ) (r : m ≡ count b) where
-          pub way-9 : 100799 < m → refused 9 m ≡ fieldCheck b
-          unfolding fieldCheck refuseIf
-          way-9 h = sym (rw (eq-eqb (preamble b) 0b10001011 e, u, v, ← q, ne-eqb n 0 z, le-ltb 5 n l, ← r, lt-ltb 100799 m h))
-
-          pub way-0 : m ≤ 100799 → accepted tt ≡ fieldCheck b
-          unfolding fieldCheck refuseIf
-          way-0 h = sym (rw (eq-eqb (preamble b) 0b10001011 e, u, v, ← q, ne-eqb n 0 z, le-ltb 5 n l, ← r, le-ltb 100799 m h))
+      pub way-0 : m ≤ 100799 → accepted tt ≡ fieldCheck b
+      unfolding refuseIf
+      way-0 h = rw (le-ltb 100799 m h) at above-9
 
 -- ---- numbers 2, 4 and 5; i and k are the first byte above 1 and the first word that breaks the table
 

@@ -78,16 +78,16 @@ fn check_fields(log: &[u8], p: usize) -> Checked
         return refused(7, 10);
     }
     let handover = parity::source_bits(parity::packed_window(log, p + 30));
-    let number = handover / 4 % 8;
+    let number = (handover / 4 % 8) as usize;
     if number == 0 {
-        return refused(8, number as usize);
+        return refused(8, number);
     }
     if 5 < number {
-        return refused(8, number as usize);
+        return refused(8, number);
     }
-    let count = handover / 0x80 % 0x20000;
+    let count = (handover / 0x80 % 0x20000) as usize;
     if 100799 < count {
-        return refused(9, count as usize);
+        return refused(9, count);
     }
     Checked::Accepted
 }

@@ -8,6 +8,11 @@ ghost use Rattle.bits.specs.Bits.{bitsAt};
 ghost use Rattle.block.specs.Check.{acceptedAt};
 ghost use Rattle.block.specs.Quick.{preambleBytes, pairIs, mayStart};
 
+// The preamble 10001011, a byte a bit, and its inverse.
+const UPRIGHT: u64 = 0x0100000001000101;
+
+const INVERTED: u64 = 0x0001010100010000;
+
 fn wide(x: u8) -> u64
     ensures { λ r. ⌜ (r ≡ x) × (r < 256) ⌝ }
 {
@@ -45,10 +50,10 @@ fn may_start(log: &[u8], p: usize) -> bool
     ensures { λ r. ⌜ r ≡ mayStart (bitsAt (now (log .entry)) p) ⌝ }
 {
     let bytes = preamble_bytes(log, p);
-    if bytes == 0x0100000001000101 {
+    if bytes == UPRIGHT {
         return pair_is(log, p, 0);
     }
-    if bytes == 0x0001010100010000 {
+    if bytes == INVERTED {
         return pair_is(log, p, 1);
     }
     false

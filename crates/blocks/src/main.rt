@@ -109,7 +109,7 @@ fn answer_case(line: &[u8]) {
 }
 
 // Copies a line that begins with `#`, and answers any other.
-fn answer(line: &[u8])
+fn answer_line(line: &[u8])
     requires { ⌜ 0 < length (now line) ⌝ }
 {
     if line[0] == b'#' {
@@ -141,7 +141,7 @@ fn main() {
     let mut at: usize = 0;
     while at < n {
         let end = line_end(&text[..n], at);
-        answer(&text[at..end]);
+        answer_line(&text[at..end]);
         at = end;
     }
 }

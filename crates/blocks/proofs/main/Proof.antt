@@ -32,17 +32,17 @@ slice-aggregate-line-end c = omega arith
 line-end-requires : tie.Need-line-end-requires Inv-loop μ-loop
 line-end-requires c κs = omega arith
 
-sub-answer : tie.Need-sub-answer Inv-loop μ-loop
-sub-answer c = omega arith
+sub-answer-line : tie.Need-sub-answer-line Inv-loop μ-loop
+sub-answer-line c = omega arith
 
-part-answer-start : tie.Need-part-answer-start Inv-loop μ-loop
-part-answer-start c = omega arith
+part-answer-line-start : tie.Need-part-answer-line-start Inv-loop μ-loop
+part-answer-line-start c = omega arith
 
-part-answer-end : tie.Need-part-answer-end Inv-loop μ-loop
-part-answer-end c = omega arith
+part-answer-line-end : tie.Need-part-answer-line-end Inv-loop μ-loop
+part-answer-line-end c = omega arith
 
-answer-requires : tie.Need-answer-requires Inv-loop μ-loop
-answer-requires c κs = omega arith
+answer-line-requires : tie.Need-answer-line-requires Inv-loop μ-loop
+answer-line-requires c κs = omega arith
 
 loop-less : tie.Need-loop-less Inv-loop μ-loop
 loop-less c = omega arith
@@ -66,10 +66,10 @@ main-spec =
     array-share-prefix-text
     slice-aggregate-line-end
     line-end-requires
-    sub-answer
-    part-answer-start
-    part-answer-end
-    answer-requires
+    sub-answer-line
+    part-answer-line-start
+    part-answer-line-end
+    answer-line-requires
     loop-less
     loop-again
     returns)

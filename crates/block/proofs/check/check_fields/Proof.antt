@@ -12,7 +12,7 @@ use Rattle.parity.specs.Word.{sourceBits}
 use Rattle.block.specs.Block.{Block, preamble, count, subframeNumber, endsAlike}
 use Rattle.block.specs.Check.{checkedAnswer}
 use Rattle.block.proofs.check.Packed.{packedAt, field-at}
-use Rattle.block.specs.Ways.{way-0, way-6, way-7-2, way-7-10, way-8-none, way-8-above, way-9}
+use Rattle.block.specs.Ways.{Framed, way-0, way-6, way-7-2, way-7-10, way-8-none, way-8-above, way-9}
 use Rattle.block.proofs.check.check_fields.Statement.{statement}
 use Rattle.block.proofs.check.check_fields.Tie as tie
 
@@ -68,6 +68,9 @@ module _ (c : tie.After-source-bits2) where
   unfolding count
   count-of = field-at log place 2 0 17 7 refl (c .source-bits2 .result) word2
 
+  framed : Framed (block2 else2)
+  framed = record { preamble-right = passed1 else1; ends-2 = passed2 else2; ends-10 = passed3 else3 }
+
 -- ---- the needs
 
 packed-window-requires : tie.Need-packed-window-requires
@@ -116,8 +119,8 @@ packed-window-requires-2 c κs = search needs
 source-bits-requires-2 : tie.Need-source-bits-requires-2
 source-bits-requires-2 c κs = search needs
 
-cast-refused : tie.Need-cast-refused
-cast-refused c = search needs
+cast-number : tie.Need-cast-number
+cast-number c = search needs
 
 refused-requires-4 : tie.Need-refused-requires-4
 refused-requires-4 c κs = search needs
@@ -125,10 +128,7 @@ refused-requires-4 c κs = search needs
 returns-4 : tie.Need-returns-4
 returns-4 c =
     let d = c .before .before in
-    c .refused4 .ensures ∙ way-8-none (block2 (else2 d)) (passed1 (else1 d)) (passed2 (else2 d)) (passed3 (else3 d)) _ (number-of d) (c .before .if4 .taken)
-
-cast-refused-2 : tie.Need-cast-refused-2
-cast-refused-2 c = search needs
+    c .refused4 .ensures ∙ way-8-none (block2 (else2 d)) (framed d) _ (number-of d) (c .before .if4 .taken)
 
 refused-requires-5 : tie.Need-refused-requires-5
 refused-requires-5 c κs = search needs
@@ -137,10 +137,10 @@ returns-5 : tie.Need-returns-5
 returns-5 c =
     let d = c .before .before .before in
     c .refused5 .ensures
-    ∙ way-8-above (block2 (else2 d)) (passed1 (else1 d)) (passed2 (else2 d)) (passed3 (else3 d)) _ (number-of d) (c .before .before .if4 .left) (omega (arith, c .before .if5 .taken))
+    ∙ way-8-above (block2 (else2 d)) (framed d) _ (number-of d) (c .before .before .if4 .left) (omega (arith, c .before .if5 .taken))
 
-cast-refused-3 : tie.Need-cast-refused-3
-cast-refused-3 c = search needs
+cast-count : tie.Need-cast-count
+cast-count c = search needs
 
 refused-requires-6 : tie.Need-refused-requires-6
 refused-requires-6 c κs = search needs
@@ -149,13 +149,13 @@ returns-6 : tie.Need-returns-6
 returns-6 c =
     let d = c .before .before .before .before in
     c .refused6 .ensures
-    ∙ way-9 (block2 (else2 d)) (passed1 (else1 d)) (passed2 (else2 d)) (passed3 (else3 d)) _ (number-of d) (c .before .before .before .if4 .left) (omega (arith, c .before .before .if5 .left)) _ (count-of d) (omega (arith, c .before .if6 .taken))
+    ∙ way-9 (block2 (else2 d)) (framed d) _ (number-of d) (c .before .before .before .if4 .left) (omega (arith, c .before .before .if5 .left)) _ (count-of d) (omega (arith, c .before .if6 .taken))
 
 returns-7 : tie.Need-returns-7
 unfolding checkedAnswer
 returns-7 c =
     let d = c .before .before .before in
-    way-0 (block2 (else2 d)) (passed1 (else1 d)) (passed2 (else2 d)) (passed3 (else3 d)) _ (number-of d) (c .before .before .if4 .left) (omega (arith, c .before .if5 .left)) _ (count-of d) (omega (arith, c .if6 .left))
+    way-0 (block2 (else2 d)) (framed d) _ (number-of d) (c .before .before .if4 .left) (omega (arith, c .before .if5 .left)) _ (count-of d) (omega (arith, c .if6 .left))
 
 pub check-fields-spec : {M : Type 1} → statement M
 check-fields-spec =
@@ -174,13 +174,12 @@ check-fields-spec =
     add-packed-window
     packed-window-requires-2
     source-bits-requires-2
-    cast-refused
+    cast-number
     refused-requires-4
     returns-4
-    cast-refused-2
     refused-requires-5
     returns-5
-    cast-refused-3
+    cast-count
     refused-requires-6
     returns-6
     returns-7)
