@@ -26,6 +26,11 @@ unfoldable pub refuseIf : {A : Type 0} → Bool → ℕ → ℕ → Answer A →
 refuseIf true n d below = refused n d
 refuseIf false n d below = below
 
+-- the value where the checks accept, else their refusal
+unfoldable pub whenAccepted : {A : Type 0} → Answer (Unit {0}) → A → Answer A
+whenAccepted (accepted t) a = accepted a
+whenAccepted (refused n d) a = refused n d
+
 -- what the code's refusal says
 abbrev pub refusalAnswer : {A : Type 0} → Refusal → Answer A
 refusalAnswer r = refused (r .number) (r .detail)

@@ -3,13 +3,20 @@ use mathlib.Core.Path.{_≡_, refl, sym, ap, ap₂}
 use mathlib.Core.Bool.{Bool, true, false, false≢true}
 use mathlib.Core.Logic.{_↔_}
 use Prim.Native.Nat.{ℕ}
-use Rattle.answer.specs.Answer.{Answer, accepted, refused, number, detail, isAccepted, refuseIf, refusalAnswer}
+use Rattle.answer.specs.Answer.{Answer, accepted, refused, number, detail, isAccepted, refuseIf, whenAccepted, refusalAnswer}
 use Rattle.answer.specs.declared.Refusal.{Refusal}
 
 module _ {A : Type 0} where
   pub refused-not : (n d : ℕ) (a : A) → refused n d ≡ accepted a → ⊥
   unfolding isAccepted
   refused-not n d a e = false≢true (ap isAccepted e)
+
+  pub accepted-injective : (a c : A) → accepted a ≡ accepted c → a ≡ c
+  accepted-injective a c e = ap (λ (x : Answer A). value x) e
+    where
+      value : Answer A → A
+      value (accepted x) = x
+      value (refused n d) = a
 
   -- a call is accepted exactly when the line's condition fails and the lines below accept it
   pub line-accepts : (t : Bool) (n d : ℕ) (below : Answer A) (a : A) → (refuseIf t n d below ≡ accepted a) ↔ ((t ≡ false) × (below ≡ accepted a))
@@ -34,6 +41,22 @@ module _ {A : Type 0} where
   unfolding number refuseIf
   line-zero true n d below a h f e = absurd (h e)
   line-zero false n d below a h f e = f e
+
+  -- a value given where the checks accept: the checks' number and detail, and accepted exactly where they accept, with that value
+  pub when-number : (x : Answer (Unit {0})) (a : A) → number (whenAccepted x a) ≡ number x
+  unfolding number whenAccepted
+  when-number (accepted t) a = refl
+  when-number (refused n d) a = refl
+
+  pub when-detail : (x : Answer (Unit {0})) (a : A) → detail (whenAccepted x a) ≡ detail x
+  unfolding detail whenAccepted
+  when-detail (accepted t) a = refl
+  when-detail (refused n d) a = refl
+
+  pub when-accepts : (x : Answer (Unit {0})) (a c : A) → whenAccepted x a ≡ accepted c → (x ≡ accepted tt) × (c ≡ a)
+  unfolding whenAccepted
+  when-accepts (accepted t) a c e = (refl, sym (accepted-injective a c e))
+  when-accepts (refused n d) a c e = absurd (refused-not n d c e)
 
   pub refusal-injective : (r q : Refusal) → refusalAnswer {A = A} r ≡ refusalAnswer {A = A} q → r ≡ q
   unfolding number detail

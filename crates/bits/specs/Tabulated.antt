@@ -1,6 +1,6 @@
 -- Laws. The list of a function's first values holds those values and no more.
 use mathlib.Core.Path.{_≡_, refl, ap, ap₂}
-use mathlib.Core.List.{List, _∷_}
+use mathlib.Core.List.{List, [], _∷_}
 use Prim.Native.Nat.{ℕ, zero, suc, _<_}
 use native.Mathlib.Omega.{arith}
 use lib.ListN.{length, getD}
@@ -22,3 +22,12 @@ unfolding tabulate
 tabulate-same zero f g h = refl
 tabulate-same (suc n) f g h =
     ap₂ (λ (x : ℕ) (xs : List ℕ). x ∷ xs) (h 0 (omega arith)) (tabulate-same n (λ i. f (suc i)) (λ i. g (suc i)) (λ i l. h (suc i) (omega arith)))
+
+-- a list of n numbers is the list of its entries
+pub tabulate-list : (xs : List ℕ) (n : ℕ) (f : ℕ → ℕ) → length xs ≡ n → ((i : ℕ) → i < n → getD xs i 0 ≡ f i) → xs ≡ tabulate n f
+unfolding tabulate
+tabulate-list [] zero f e h = refl
+tabulate-list [] (suc n) f e h = absurd (omega arith)
+tabulate-list (x ∷ xs) zero f e h = absurd (omega arith)
+tabulate-list (x ∷ xs) (suc n) f e h =
+    ap₂ (λ (y : ℕ) (ys : List ℕ). y ∷ ys) (h 0 (omega arith)) (tabulate-list xs n (λ i. f (suc i)) (omega arith) (λ i l. h (suc i) (omega arith)))

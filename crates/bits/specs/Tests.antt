@@ -26,7 +26,11 @@ pub and-right : (a b : Bool) → T (a && b) → T b
 and-right true b t = t
 and-right false b t = absurd t
 
-and-false : (a : Bool) → (a && false) ≡ false
+pub and-true : (a b : Bool) → (a && b) ≡ true → (a ≡ true) × (b ≡ true)
+and-true true b e = (refl, e)
+and-true false b e = absurd (false≢true e)
+
+pub and-false : (a : Bool) → (a && false) ≡ false
 and-false true = refl
 and-false false = refl
 
@@ -39,6 +43,21 @@ unfolding everyBelow
 everyBelow-at zero f t k h = absurd (omega arith)
 everyBelow-at (suc n) f t k h =
     below-suc (λ i. T (f i)) n (everyBelow-at n f (and-left (everyBelow n f) (f n) t)) (and-right (everyBelow n f) (f n) t) k h
+
+pub and-right-true : (a : Bool) → (a && true) ≡ a
+and-right-true true = refl
+and-right-true false = refl
+
+and-assoc : (a b c : Bool) → ((a && b) && c) ≡ (a && (b && c))
+and-assoc true b c = refl
+and-assoc false b c = refl
+
+-- the first number apart
+pub everyBelow-first : (n : ℕ) (f : ℕ → Bool) → everyBelow (suc n) f ≡ (f 0 && everyBelow n (λ k. f (suc k)))
+unfolding everyBelow
+everyBelow-first zero f = sym (and-right-true (f 0))
+everyBelow-first (suc n) f =
+    ap (λ (b : Bool). b && f (suc n)) (everyBelow-first n f) ∙ and-assoc (f 0) (everyBelow n (λ k. f (suc k))) (f (suc n))
 
 pub everyBelow-true : (n : ℕ) (f : ℕ → Bool) → ((k : ℕ) → k < n → f k ≡ true) → everyBelow n f ≡ true
 unfolding everyBelow

@@ -8,13 +8,13 @@ use native.Mathlib.Omega.{arith}
 use borrow.Author.Tests.{ltb-false, le-ltb, eqb-true, eqb-false, not-false}
 use lib.Dec.{eqb, ltb}
 use Rattle.bits.specs.Bits.{AreBits, bitsAt}
-use Rattle.bits.specs.Tests.{or-false}
+use Rattle.bits.specs.Tests.{and-true, or-false}
 use Rattle.bits.specs.Firsts.{first-before, first-none}
 use Rattle.parity.specs.Word.{passes}
 use Rattle.parity.specs.Equations.{passes-syndrome}
 use Rattle.answer.specs.Answer.{accepted}
 use Rattle.answer.specs.Lines.{line-accepts}
-use Rattle.block.specs.Block.{Block, window, count, subframeNumber}
+use Rattle.block.specs.Block.{Block, window, count, subframeNumber, endsAlike}
 use Rattle.block.specs.Check.{firstAbove, firstBroken, fieldCheck, bitCheck, blockCheck}
 use Rattle.block.specs.Compare.{Stands, Accepted, WordsPass, Conforms}
 use Rattle.block.specs.Ways.{way-0, way-fields, way-bits}
@@ -32,6 +32,10 @@ module _ (b : Block) where
 
   pub word-passes : WordsPass b → (k : ℕ) → 1 ≤ k → k ≤ 10 → passes (window b k) ≡ true
   word-passes h k l m = passes-syndrome (window b k) .1 (h k l m)
+
+  pub ends-pair : (k : ℕ) → endsAlike b k ≡ true → (window b k 30 ≡ b 0) × (window b k 31 ≡ b 1)
+  unfolding endsAlike
+  ends-pair k h = let t = and-true (eqb (window b k 30) (b 0)) (eqb (window b k 31) (b 1)) h in (eqb-true _ _ (t .0), eqb-true _ _ (t .1))
 
   words-none : WordsPass b → firstBroken b ≡ 11
   unfolding firstBroken

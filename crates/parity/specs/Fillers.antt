@@ -1,20 +1,22 @@
 -- Laws. For a pair, 22 source bits and a wanted ending exactly one choice of the two fillers ends the word so.
-use mathlib.Core.Path.{_≡_, sym, ap, _∙_}
+use mathlib.Core.Path.{_≡_, refl, sym, ap, _∙_}
 use mathlib.Core.Bool.{Bool, true, false, cond}
 use mathlib.Core.Logic.{_↔_}
-use Prim.Native.Nat.{ℕ, zero, suc, _+_, _%_, _<_}
+use Prim.Native.Nat.{ℕ, zero, suc, _+_, _%_, _<_, _≤_}
+use native.Mathlib.Decide.{ℕ-discrete}
 use native.Mathlib.Omega.{arith}
+use borrow.Author.Tests.{eq-eqb, ne-eqb}
 use lib.Dec.{eqb, lit<}
-use Rattle.bits.specs.Bits.{_⊕_, Bits, Same, xor}
+use Rattle.bits.specs.Bits.{_⊕_, Bits, AreBits, Same, xor}
 use Rattle.bits.specs.Xor.{odd-only, interchange}
 use Rattle.bits.specs.Every.{everyBelow}
 use Rattle.bits.specs.Tests.{equal-below₂}
 use Rattle.parity.specs.Table.{table, line}
-use Rattle.parity.specs.Word.{Window, receivedBit, sourceBit, sourceSum, parityBit}
+use Rattle.parity.specs.Word.{Window, receivedBit, sourceBit, sourceSum, parityBit, passes}
 use Rattle.parity.specs.Encode.{dataBits, encode, withFillers, filler23, filler24}
 use Rattle.parity.specs.Linear.{parityBit-linear}
 use Rattle.parity.specs.Local.{parityBit-local}
-use Rattle.parity.specs.OneWord.{encode-parity}
+use Rattle.parity.specs.OneWord.{encode-parity, encode-only}
 
 -- what the fillers x and y alone contribute to the bit of line k
 share : ℕ → ℕ → ℕ → ℕ
@@ -86,3 +88,41 @@ module _ (p q : ℕ) (s : Bits) (x y : ℕ) where
 
       bit30 : encode p q (withFillers s x y) 31 ≡ encode p q (withFillers s 0 0) 31 ⊕ (x ⊕ y)
       bit30 = split 5 (lit< tt) ∙ ap (λ (z : ℕ). encode p q (withFillers s 0 0) 31 ⊕ z) (share-30 x y hx hy)
+
+-- ---- the fillers of a passing word are those that its ending asks
+
+module _ (w : Window) (s : Bits) (bits : AreBits 32 w) (passing : passes w ≡ true) (same : (i : ℕ) → 1 ≤ i → i ≤ 22 → sourceBit w i ≡ s i) where
+  own-source : Bits
+  own-source = withFillers s (sourceBit w 23) (sourceBit w 24)
+
+  has-source : (i : ℕ) → 1 ≤ i → i ≤ 24 → sourceBit w i ≡ own-source i
+  unfolding own-source withFillers
+  has-source i l h = go (ℕ-discrete i 23) (ℕ-discrete i 24)
+    where
+      go : Dec (i ≡ 23) → Dec (i ≡ 24) → sourceBit w i ≡ cond (eqb i 23) (sourceBit w 23) (cond (eqb i 24) (sourceBit w 24) (s i))
+      go (yes e) d = rw (eq-eqb i 23 e) (ap (sourceBit w) e)
+      go (no n) (yes e) = rw (ne-eqb i 23 n, eq-eqb i 24 e) (ap (sourceBit w) e)
+      go (no n) (no m) = rw (ne-eqb i 23 n, ne-eqb i 24 m) (same i l (omega arith))
+
+  is-encoded : (j : ℕ) → j < 32 → w j ≡ encode (w 0) (w 1) own-source j
+  unfolding sourceBit
+  is-encoded =
+      encode-only (w 0) (w 1) own-source (bits 0 (lit< tt)) (bits 1 (lit< tt)) (λ i l h. omega (arith, has-source i l h)) w bits passing
+      (record { pairP = refl; pairQ = refl; source = has-source })
+
+  pub word-fillers : (sourceBit w 23 ≡ filler23 (w 0) (w 1) s (w 30) (w 31)) × (sourceBit w 24 ≡ filler24 (w 0) (w 1) s (w 30))
+  unfolding own-source sourceBit
+  word-fillers =
+      fillers (w 0) (w 1) s (sourceBit w 23) (sourceBit w 24) (omega arith) (omega arith) (w 30) (w 31) (bits 30 (lit< tt)) (bits 31 (lit< tt)) .0
+      (sym (is-encoded 30 (lit< tt)), sym (is-encoded 31 (lit< tt)))
+
+-- two passing words with the same pair, the same source bits 1 to 22 and the same ending have the same fillers
+pub same-fillers : (u v : Window) → AreBits 32 u → AreBits 32 v → passes u ≡ true → passes v ≡ true
+    → u 0 ≡ v 0 → u 1 ≡ v 1 → u 30 ≡ v 30 → u 31 ≡ v 31 → ((i : ℕ) → 1 ≤ i → i ≤ 22 → sourceBit u i ≡ sourceBit v i)
+    → (sourceBit u 23 ≡ sourceBit v 23) × (sourceBit u 24 ≡ sourceBit v 24)
+same-fillers u v bu bv pu pv p q a b same =
+    let x = word-fillers u (sourceBit v) bu pu same in
+    let y = word-fillers v (sourceBit v) bv pv (λ i l h. refl) in (
+      x .0 ∙ (λ i. filler23 (p i) (q i) (sourceBit v) (a i) (b i)) ∙ sym (y .0),
+      x .1 ∙ (λ i. filler24 (p i) (q i) (sourceBit v) (a i)) ∙ sym (y .1),
+    )

@@ -1,0 +1,70 @@
+-- Laws. The reader refuses exactly as the block check does, and what it reads the writer takes.
+use mathlib.Core.Path.{_≡_, sym, ap, _∙_}
+use mathlib.Core.Bool.{true}
+use mathlib.Core.List.{List}
+use Prim.Native.Nat.{ℕ}
+use native.Mathlib.Omega.{arith}
+use Rattle.bits.specs.Bits.{bitsAt}
+use Rattle.layout.specs.Field.{readField}
+use Rattle.layout.specs.Layout.{decode}
+use Rattle.answer.specs.Answer.{Answer, accepted, number, detail, whenAccepted}
+use Rattle.answer.specs.Lines.{refused-not, accepted-injective, when-number, when-detail, when-accepts, refusal-injective}
+use Rattle.block.specs.Block.{Block, count, subframeNumber, source}
+use Rattle.block.specs.Check.{blockCheck}
+use Rattle.block.specs.Compare.{Accepted}
+use Rattle.block.specs.Acceptance.{acceptance}
+use Rattle.block.specs.Source.{source-field}
+use Rattle.record.specs.Source.{headerIn, recordOf}
+use Rattle.record.specs.Held.{record-writable}
+use Rattle.record.specs.Writable.{writable}
+use Rattle.record.specs.declared.record.Record.{Record}
+use Rattle.reader.specs.Reading.{readingAnswer, reading}
+use Rattle.reader.specs.declared.reader.Reading.{Reading}
+use Rattle.reader.specs.declared.reader.Reading.the-variants as R
+
+-- the answer determines the enum
+pub readingAnswer-injective : (x y : Reading) → readingAnswer x ≡ readingAnswer y → x ≡ y
+unfolding readingAnswer
+readingAnswer-injective (R.Accepted r) (R.Accepted q) e = ap R.Accepted (accepted-injective r q e)
+readingAnswer-injective (R.Accepted r) (R.Refused q) e = absurd (refused-not (q .number) (q .detail) r (sym e))
+readingAnswer-injective (R.Refused r) (R.Accepted q) e = absurd (refused-not (r .number) (r .detail) q e)
+readingAnswer-injective (R.Refused r) (R.Refused q) e = ap R.Refused (refusal-injective r q e)
+
+module _ (s : List ℕ) (p : ℕ) where
+  -- the number and the detail are the block check's
+  pub reading-number : number (reading s p) ≡ number (blockCheck s p)
+  unfolding reading
+  reading-number = when-number (blockCheck s p) (recordOf (source (bitsAt s p)))
+
+  pub reading-detail : detail (reading s p) ≡ detail (blockCheck s p)
+  unfolding reading
+  reading-detail = when-detail (blockCheck s p) (recordOf (source (bitsAt s p)))
+
+  -- an accepted block reads as the record of its source bits
+  pub reads : Accepted s p → reading s p ≡ accepted (recordOf (source (bitsAt s p)))
+  unfolding reading whenAccepted
+  reads h = ap (λ (x : Answer (Unit {0})). whenAccepted x (recordOf (source (bitsAt s p)))) h
+
+  -- and only an accepted block is read
+  pub read-accepted : (r : Record) → reading s p ≡ accepted r → Accepted s p × (r ≡ recordOf (source (bitsAt s p)))
+  unfolding reading
+  read-accepted r e = when-accepts (blockCheck s p) (recordOf (source (bitsAt s p))) r e
+
+-- the header's subframe number and count are those that the block check looks at
+module _ (b : Block) where
+  header-number : headerIn (source b) .subframe ≡ subframeNumber b
+  unfolding headerIn decode readField subframeNumber
+  header-number = source-field b 2 (omega arith) (omega arith) 20 3 (omega arith) (omega arith)
+
+  header-count : headerIn (source b) .count ≡ count b
+  unfolding headerIn decode readField count
+  header-count = source-field b 2 (omega arith) (omega arith) 1 17 (omega arith) (omega arith)
+
+-- what is read, the writer takes
+pub reads-writable : (s : List ℕ) (p : ℕ) (r : Record) → reading s p ≡ accepted r → writable r ≡ true
+reads-writable s p r e =
+    let h = read-accepted s p r e in
+    let c = acceptance s p .0 (h .0) .1 in
+    let b = bitsAt s p in
+    ap writable (h .1)
+    ∙ record-writable (source b) (omega (arith, header-number b, c .number-low)) (omega (arith, header-number b, c .number-high)) (omega (arith, header-count b, c .count-high))

@@ -1,0 +1,50 @@
+// The reader's answer: the record, or the refusal of the block check.
+use crate::numbers::number_at;
+use crate::numbers::numbers_at;
+use answer::Refusal;
+use block::Checked;
+use record::Header;
+use record::Record;
+ghost use mathlib.Core.Path.{_≡_};
+ghost use Prim.Native.Nat.{_+_, _≤_};
+ghost use lib.ListN.{length};
+ghost use Rattle.bits.specs.Bits.{bitsAt};
+ghost use Rattle.block.specs.Block.{source};
+ghost use Rattle.record.specs.Source.{headerIn, recordOf};
+ghost use Rattle.reader.specs.Reading.{readingAnswer, reading};
+
+// The answer of the reader.
+pub enum Reading {
+    Accepted(Record),
+    Refused(Refusal),
+}
+
+// The header of the block at p.
+fn header_at(log: &[u8], p: usize) -> Header
+    requires { ⌜ p + 302 ≤ length (now log) ⌝ }
+    ensures { λ h. ⌜ h ≡ headerIn (source (bitsAt (now (log .entry)) p)) ⌝ }
+{
+    record::header_from(numbers_at(log, p, 8, record::header_widths()))
+}
+
+// The record of the block at p.
+fn record_at(log: &[u8], p: usize) -> Record
+    requires { ⌜ p + 302 ≤ length (now log) ⌝ }
+    ensures { λ r. ⌜ r ≡ recordOf (source (bitsAt (now (log .entry)) p)) ⌝ }
+{
+    let header = header_at(log, p);
+    let data_id = number_at(log, p, 48, 2);
+    let id = number_at(log, p, 50, 6);
+    let kind = record::kind_for(header.subframe, data_id, id);
+    record::record_from(kind, header, numbers_at(log, p, 48, record::widths(kind)))
+}
+
+// Reads the block at place p of a log.
+pub fn read(log: &[u8], p: usize) -> Reading
+    ensures { λ r. ⌜ readingAnswer r ≡ reading (now (log .entry)) p ⌝ }
+{
+    match block::check_block(log, p) {
+        Checked::Accepted => Reading::Accepted(record_at(log, p)),
+        Checked::Refused(r) => Reading::Refused(r),
+    }
+}

@@ -1,0 +1,31 @@
+-- `subframe2_from` meets its contract: each signed value is what its call ensures.
+use borrow.Author.Needs.{needs}
+use lib.ListN.{getD}
+use Rattle.layout.specs.Table.{valuesFrom}
+use Rattle.record.proofs.signs.Machine.{held}
+use Rattle.record.proofs.from_numbers.subframe2_from.Statement.{statement}
+use Rattle.record.proofs.from_numbers.subframe2_from.Tie as tie
+
+returns : tie.Need-returns
+unfolding valuesFrom
+returns c =
+    let a = c .before .before .before .before .before .args in
+    λ i. record {
+      header = a .header;
+      iode = getD (a .t2) 0 0;
+      crs = held (c .before .before .before .before .signed-of .ensures) i;
+      «delta_n» = held (c .before .before .before .signed-of2 .ensures) i;
+      m0 = held (c .before .before .signed-of3 .ensures) i;
+      cuc = held (c .before .signed-of4 .ensures) i;
+      e = getD (a .t2) 5 0;
+      cus = held (c .signed-of5 .ensures) i;
+      «root_a» = getD (a .t2) 7 0;
+      toe = getD (a .t2) 8 0;
+      fit = getD (a .t2) 9 0;
+      aodo = getD (a .t2) 10 0;
+    }
+
+pub subframe2-from-spec : {M : Type 1} → statement M
+subframe2-from-spec =
+    tie.close
+    (tie.spec (λ c. search needs) (λ c. search needs) (λ c κs. search needs) (λ c. search needs) (λ c κs. search needs) (λ c. search needs) (λ c κs. search needs) (λ c. search needs) (λ c κs. search needs) (λ c. search needs) (λ c. search needs) (λ c κs. search needs) (λ c. search needs) (λ c. search needs) (λ c. search needs) (λ c. search needs) returns)

@@ -1,0 +1,14 @@
+-- `header_numbers` meets its contract.
+use mathlib.Core.Path.{refl}
+use Rattle.layout.specs.Table.{numbers}
+use Rattle.record.proofs.numbers.header_numbers.Statement.{statement}
+use Rattle.record.proofs.numbers.header_numbers.Tie as tie
+
+returns : tie.Need-returns
+unfolding numbers
+returns c = refl
+
+pub header-numbers-spec : {M : Type 1} → statement M
+header-numbers-spec =
+    tie.close
+    (tie.spec returns)

@@ -1,0 +1,28 @@
+-- `subframe2_numbers` meets its contract: each signed value's number is what its call ensures.
+use mathlib.Core.List.{[], _∷_}
+use borrow.Author.Needs.{needs}
+use Rattle.layout.specs.Table.{numbers}
+use Rattle.record.proofs.signs.Machine.{numbered}
+use Rattle.record.proofs.numbers.subframe2_numbers.Statement.{statement}
+use Rattle.record.proofs.numbers.subframe2_numbers.Tie as tie
+
+returns : tie.Need-returns
+unfolding numbers
+returns c =
+    let r = c .before .before .before .before .before .before .before .before .before .before .args .r in
+    let at-crs = c .before .before .before .before .before .before .before .before .before .struct-told .given .1 .1 in
+    let at-delta-n = at-crs .1 in
+    let at-m0 = at-delta-n .1 in
+    let at-cuc = at-m0 .1 in
+    let at-cus = at-cuc .1 .1 in
+    let crs = numbered 16 (r .crs) (c .before .before .before .before .before .before .before .before .unsigned-of .ensures) (at-crs .0 .1) in
+    let delta-n = numbered 16 (r .«delta_n») (c .before .before .before .before .before .before .unsigned-of2 .ensures) (at-delta-n .0 .1) in
+    let m0 = numbered 32 (r .m0) (c .before .before .before .before .unsigned-of3 .ensures) (at-m0 .0 .1) in
+    let cuc = numbered 16 (r .cuc) (c .before .before .unsigned-of4 .ensures) (at-cuc .0 .1) in
+    let cus = numbered 16 (r .cus) (c .unsigned-of5 .ensures) (at-cus .0 .1) in
+    λ i. r .iode ∷ crs i ∷ delta-n i ∷ m0 i ∷ cuc i ∷ r .e ∷ cus i ∷ r .«root_a» ∷ r .toe ∷ r .fit ∷ r .aodo ∷ 0 ∷ 0 ∷ 0 ∷ 0 ∷ 0 ∷ 0 ∷ 0 ∷ 0 ∷ []
+
+pub subframe2-numbers-spec : {M : Type 1} → statement M
+subframe2-numbers-spec =
+    tie.close
+    (tie.spec (λ c κs. search needs) (λ c κs. search needs) (λ c κs. search needs) (λ c κs. search needs) (λ c κs. search needs) returns)

@@ -1,0 +1,2 @@
+-- Laws that the proofs of this folder share.
+pub mod Machine

@@ -1,0 +1,12 @@
+-- The files of this folder: the definitions, then the laws.
+pub mod Kind
+pub mod Fields
+pub mod Record
+pub mod Writable
+pub mod Source
+pub mod Examples
+pub mod Sound
+pub mod Kinds
+pub mod Records
+pub mod Held
+pub mod ExamplesHold

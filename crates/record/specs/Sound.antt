@@ -1,0 +1,64 @@
+-- Laws. The fields of every kind fill words 3 to 10, and the tables of the code hold them.
+use mathlib.Core.Path.{_≡_, refl, sym, ap, subst, _∙_}
+use mathlib.Core.List.{List}
+use mathlib.Core.Bool.{Bool, true, _&&_}
+use Prim.Native.Nat.{ℕ, _+_, _≤_}
+use native.Mathlib.Omega.{arith}
+use borrow.Author.Tests.{eqb-true, leb-true}
+use lib.Dec.{eqb, leb}
+use lib.ListN.{length, getD}
+use Rattle.bits.specs.Tests.{and-true}
+use Rattle.layout.specs.Layout.{Layout, size, decode}
+use Rattle.layout.specs.Layouts.{proper}
+use Rattle.layout.specs.Table.{widths, valuesFrom, offset, numbersAt}
+use Rattle.layout.specs.Tables.{offset-size, widths-most, table-values}
+use Rattle.record.specs.Fields.{headerFields, fieldsOf}
+use Rattle.record.specs.declared.kind.Kind.{Kind}
+use Rattle.record.specs.declared.kind.Kind.the-variants.{Subframe1, Subframe2, Subframe3, Almanac, Utc, Other}
+
+-- n bits in all, at most 19 fields, and each of 1 to 32 bits
+isSound : ℕ → Layout → Bool
+isSound n l = eqb (size l) n && (leb (length l) 19 && proper l)
+
+pub record Sound (n : ℕ) (l : Layout) : Type 0 where
+  pub bits : size l ≡ n
+  pub few : length l ≤ 19
+  pub proper-widths : proper l ≡ true
+
+sound : (n : ℕ) (l : Layout) → isSound n l ≡ true → Sound n l
+unfolding isSound
+sound n l h =
+    let a = and-true (eqb (size l) n) (leb (length l) 19 && proper l) h in
+    let b = and-true (leb (length l) 19) (proper l) (a .1) in
+    record { bits = eqb-true (size l) n (a .0); few = leb-true (length l) 19 (b .0); proper-widths = b .1 }
+
+-- the header has 38 bits, and each kind 190
+pub header-sound : Sound 38 headerFields
+unfolding isSound size proper
+header-sound = sound 38 headerFields refl
+
+tested : (k : Kind) → isSound 190 (fieldsOf k) ≡ true
+unfolding isSound size proper
+tested Subframe1 = refl
+tested Subframe2 = refl
+tested Subframe3 = refl
+tested Almanac = refl
+tested Utc = refl
+tested Other = refl
+
+pub fields-sound : (k : Kind) → Sound 190 (fieldsOf k)
+fields-sound k = sound 190 (fieldsOf k) (tested k)
+
+-- ---- the table of 19 widths of such fields
+
+module _ (n : ℕ) (l : Layout) (h : Sound n l) where
+  -- read from index `at` on, it stays within a bound that holds at + n, and each width is at most 32
+  pub table-room : (at bound : ℕ) → at + n ≤ bound → (ws : List ℕ) → ws ≡ widths 19 l → (at + offset ws 19 ≤ bound) × ((i : ℕ) → getD ws i 0 ≤ 32)
+  table-room at bound r ws e =
+      subst (λ (x : List ℕ). (at + offset x 19 ≤ bound) × ((i : ℕ) → getD x i 0 ≤ 32)) (sym e)
+      (omega (arith, offset-size 19 l (h .few), h .bits), widths-most 19 l (h .proper-widths))
+
+  -- the numbers that stand in it are the values
+  pub table-decode : (at : ℕ) (bits ws ns : List ℕ) → ws ≡ widths 19 l → ns ≡ numbersAt 19 ws at bits → valuesFrom l 0 ns ≡ decode l at bits
+  table-decode at bits ws ns e d =
+      ap (valuesFrom l 0) (d ∙ ap (λ (x : List ℕ). numbersAt 19 x at bits) e) ∙ table-values 19 l (h .few) at bits

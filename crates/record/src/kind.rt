@@ -1,0 +1,74 @@
+// The kinds of record, and which kind a subframe is.
+ghost use mathlib.Core.Path.{_≡_};
+ghost use Rattle.record.specs.Kind.{isPage, isAlmanac, isUtc, kindFor};
+
+pub enum Kind {
+    Subframe1,
+    Subframe2,
+    Subframe3,
+    Almanac,
+    Utc,
+    Other,
+}
+
+// Whether a subframe with this number holds a page.
+pub fn is_page(subframe: u32) -> bool
+    ensures { λ r. ⌜ r ≡ isPage subframe ⌝ }
+{
+    if subframe == 4 {
+        return true;
+    }
+    subframe == 5
+}
+
+// Whether a page with this data ID field and ID is an almanac page.
+pub fn is_almanac(subframe: u32, data_id: u32, id: u32) -> bool
+    ensures { λ r. ⌜ r ≡ isAlmanac subframe data_id id ⌝ }
+{
+    if !is_page(subframe) {
+        return false;
+    }
+    if data_id != 1 {
+        return false;
+    }
+    if id < 1 {
+        return false;
+    }
+    id <= 32
+}
+
+// Whether it is the UTC page.
+pub fn is_utc(subframe: u32, data_id: u32, id: u32) -> bool
+    ensures { λ r. ⌜ r ≡ isUtc subframe data_id id ⌝ }
+{
+    if subframe != 4 {
+        return false;
+    }
+    if id != 56 {
+        return false;
+    }
+    data_id == 1
+}
+
+// The kind of a subframe by its number, its data ID field and its ID. Only subframes 4 and 5 have the two; numbers outside 1 to 5 are
+// the block check's question.
+pub fn kind_for(subframe: u32, data_id: u32, id: u32) -> Kind
+    ensures { λ r. ⌜ r ≡ kindFor subframe data_id id ⌝ }
+{
+    if subframe == 1 {
+        return Kind::Subframe1;
+    }
+    if subframe == 2 {
+        return Kind::Subframe2;
+    }
+    if subframe == 3 {
+        return Kind::Subframe3;
+    }
+    if is_almanac(subframe, data_id, id) {
+        return Kind::Almanac;
+    }
+    if is_utc(subframe, data_id, id) {
+        return Kind::Utc;
+    }
+    Kind::Other
+}

@@ -1,0 +1,127 @@
+// Which records the writer takes: number 11 refuses all others.
+use crate::kind::Kind;
+use crate::kind::is_almanac;
+use crate::kind::is_page;
+use crate::kind::is_utc;
+use crate::numbers::field_numbers;
+use crate::numbers::header_numbers;
+use crate::record::Header;
+use crate::record::Record;
+use crate::tables::header_widths;
+use crate::tables::widths;
+ghost use mathlib.Core.Path.{_≡_};
+ghost use Prim.Native.Nat.{ℕ, _≤_, _^_};
+ghost use lib.Dec.{ltb};
+ghost use lib.ListN.{getD};
+ghost use Rattle.layout.specs.Layout.{allWithin};
+ghost use Rattle.layout.specs.Table.{allFit};
+ghost use Rattle.record.specs.Fields.{headerFields, fieldsOf};
+ghost use Rattle.record.specs.Kind.{isOther};
+ghost use Rattle.record.specs.Record.{kindOf, header, headerValues, fieldValues};
+ghost use Rattle.record.specs.Writable as Writable;
+
+fn fits(n: u32, width: usize) -> bool
+    requires { ⌜ width ≤ 32 ⌝ }
+    ensures { λ r. ⌜ r ≡ ltb n (2 ^ width) ⌝ }
+{
+    (n as u64) < (1u64 << width)
+}
+
+// Whether each number is within its width.
+fn all_fit(widths: [usize; 19], n: [u32; 19]) -> bool
+    requires { ⌜ ((i : ℕ) → getD widths i 0 ≤ 32) ⌝ }
+    ensures { λ r. ⌜ r ≡ allFit 19 widths n ⌝ }
+{
+    let mut i: usize = 0;
+    while i < 19 {
+        if !fits(n[i], widths[i]) {
+            return false;
+        }
+        i += 1;
+    }
+    true
+}
+
+fn kind_of(r: Record) -> Kind
+    ensures { λ k. ⌜ k ≡ kindOf r ⌝ }
+{
+    match r {
+        Record::Subframe1(_) => Kind::Subframe1,
+        Record::Subframe2(_) => Kind::Subframe2,
+        Record::Subframe3(_) => Kind::Subframe3,
+        Record::Almanac(_) => Kind::Almanac,
+        Record::Utc(_) => Kind::Utc,
+        Record::Other(_) => Kind::Other,
+    }
+}
+
+fn header_of(r: Record) -> Header
+    ensures { λ h. ⌜ h ≡ header r ⌝ }
+{
+    match r {
+        Record::Subframe1(s) => s.header,
+        Record::Subframe2(s) => s.header,
+        Record::Subframe3(s) => s.header,
+        Record::Almanac(p) => p.header,
+        Record::Utc(p) => p.header,
+        Record::Other(p) => p.header,
+    }
+}
+
+// Whether a page with this data ID field and ID is neither an almanac page nor the UTC page.
+fn is_other(subframe: u32, data_id: u32, id: u32) -> bool
+    ensures { λ r. ⌜ r ≡ isOther subframe data_id id ⌝ }
+{
+    if !is_page(subframe) {
+        return false;
+    }
+    if is_almanac(subframe, data_id, id) {
+        return false;
+    }
+    !is_utc(subframe, data_id, id)
+}
+
+// Whether the subframe number and the IDs are those of the record's kind.
+fn of_its_kind(r: Record) -> bool
+    ensures { λ t. ⌜ t ≡ Writable.ofItsKind r ⌝ }
+{
+    match r {
+        Record::Subframe1(s) => s.header.subframe == 1,
+        Record::Subframe2(s) => s.header.subframe == 2,
+        Record::Subframe3(s) => s.header.subframe == 3,
+        Record::Almanac(p) => is_almanac(p.header.subframe, p.data_id, p.sv_id),
+        Record::Utc(p) => is_utc(p.header.subframe, p.data_id, p.id),
+        Record::Other(p) => is_other(p.header.subframe, p.data_id, p.id),
+    }
+}
+
+// Whether each value of the header is within its field.
+fn header_within(h: Header) -> bool
+    ensures { λ t. ⌜ t ≡ allWithin headerFields (headerValues h) ⌝ }
+{
+    all_fit(header_widths(), header_numbers(h))
+}
+
+// Whether each value of words 3 to 10 is within its field.
+fn fields_within(r: Record) -> bool
+    ensures { λ t. ⌜ t ≡ allWithin (fieldsOf (kindOf r)) (fieldValues r) ⌝ }
+{
+    all_fit(widths(kind_of(r)), field_numbers(r))
+}
+
+// Whether the writer takes the record.
+pub fn writable(r: Record) -> bool
+    ensures { λ t. ⌜ t ≡ Writable.writable r ⌝ }
+{
+    let header = header_of(r);
+    if !header_within(header) {
+        return false;
+    }
+    if !fields_within(r) {
+        return false;
+    }
+    if 100799 < header.count {
+        return false;
+    }
+    of_its_kind(r)
+}
