@@ -1,4 +1,5 @@
 -- `subframe2_from` meets its contract: each signed value is what its call ensures.
+-- What `search` closes: an index of the 19 numbers, and a width of 1 to 32.
 use borrow.Author.Needs.{needs}
 use lib.ListN.{getD}
 use Rattle.layout.specs.Table.{valuesFrom}

@@ -1,4 +1,5 @@
 -- `subframe2_numbers` meets its contract: each signed value's number is what its call ensures.
+-- `at-` and a name: that field of the struct and those after it, each known to be an i32.
 use mathlib.Core.List.{[], _∷_}
 use borrow.Author.Needs.{needs}
 use Rattle.layout.specs.Table.{numbers}
