@@ -1,7 +1,6 @@
-// The window of a word in a log, packed into one number: P highest, then Q, then bits 1 to 30.
+// The bits of a log, and the window of a word packed into one number: P highest, then Q, then bits 1 to 30.
 ghost use mathlib.Core.Path.{_≡_};
-ghost use Prim.Native.Nat.{_+_, _%_};
-ghost use lib.ListN.{getD};
+ghost use Prim.Native.Nat.{_%_};
 ghost use Rattle.bits.specs.Bits.{bitsAt, pack};
 
 fn wide(b: u8) -> u32
@@ -11,8 +10,8 @@ fn wide(b: u8) -> u32
 }
 
 // The bit j places after p: its byte modulo 2, and 0 past the end.
-fn bit_at(log: &[u8], p: usize, j: usize) -> u32
-    ensures { λ r. ⌜ r ≡ getD (now (log .entry)) (p + j) 0 % 2 ⌝ }
+pub fn bit_at(log: &[u8], p: usize, j: usize) -> u32
+    ensures { λ r. ⌜ r ≡ bitsAt (now (log .entry)) p j % 2 ⌝ }
 {
     if log.len() <= p {
         return 0;

@@ -1,29 +1,23 @@
 // The numbers that stand in the source bits of a block, which are counted from 0 through its ten words.
 ghost use mathlib.Core.Path.{_≡_};
-ghost use Prim.Native.Nat.{ℕ, _+_, _%_, _≤_, _<_};
-ghost use lib.ListN.{length, getD};
+ghost use Prim.Native.Nat.{ℕ, _+_, _≤_, _<_};
+ghost use lib.ListN.{getD};
 ghost use Rattle.bits.specs.Bits.{bitsAt, pack};
 ghost use Rattle.layout.specs.Table.{offset, numbersAt};
 ghost use Rattle.block.specs.Block.{source};
 
-fn bit(b: u8) -> u32
-    ensures { λ r. ⌜ r ≡ b % 2 ⌝ }
-{
-    (b % 2) as u32
-}
-
 // Source bit i of the block at p: the received bit exclusive-or the last bit of the word before.
 fn source_bit(log: &[u8], p: usize, i: usize) -> u32
-    requires { ⌜ (p + 302 ≤ length (now log)) × (i < 240) ⌝ }
+    requires { ⌜ i < 240 ⌝ }
     ensures { λ r. ⌜ (r ≡ getD (source (bitsAt (now (log .entry)) p)) i 0) × (r < 2) ⌝ }
 {
-    let window = p + 30 * (i / 24);
-    (bit(log[window + 2 + i % 24]) + bit(log[window + 1])) % 2
+    let word = 30 * (i / 24);
+    (parity::bit_at(log, p, word + 2 + i % 24) + parity::bit_at(log, p, word + 1)) % 2
 }
 
 // The number in the `width` source bits from index `at` on, the first highest.
 pub fn number_at(log: &[u8], p: usize, at: usize, width: usize) -> u32
-    requires { ⌜ (p + 302 ≤ length (now log)) × ((at + width ≤ 240) × (width ≤ 32)) ⌝ }
+    requires { ⌜ (at + width ≤ 240) × (width ≤ 32) ⌝ }
     ensures { λ r. ⌜ r ≡ pack width (bitsAt (source (bitsAt (now (log .entry)) p)) at) ⌝ }
 {
     let mut n: u32 = 0;
@@ -37,7 +31,7 @@ pub fn number_at(log: &[u8], p: usize, at: usize, width: usize) -> u32
 
 // The numbers that stand one after the other in these widths from index `at` on.
 pub fn numbers_at(log: &[u8], p: usize, at: usize, widths: [usize; 19]) -> [u32; 19]
-    requires { ⌜ (p + 302 ≤ length (now log)) × ((at + offset widths 19 ≤ 240) × ((i : ℕ) → getD widths i 0 ≤ 32)) ⌝ }
+    requires { ⌜ (at + offset widths 19 ≤ 240) × ((i : ℕ) → getD widths i 0 ≤ 32) ⌝ }
     ensures { λ r. ⌜ r ≡ numbersAt 19 widths at (source (bitsAt (now (log .entry)) p)) ⌝ }
 {
     let mut numbers = [0u32; 19];

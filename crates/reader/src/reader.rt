@@ -6,8 +6,6 @@ use block::Checked;
 use record::Header;
 use record::Record;
 ghost use mathlib.Core.Path.{_≡_};
-ghost use Prim.Native.Nat.{_+_, _≤_};
-ghost use lib.ListN.{length};
 ghost use Rattle.bits.specs.Bits.{bitsAt};
 ghost use Rattle.block.specs.Block.{source};
 ghost use Rattle.record.specs.Source.{headerIn, recordOf};
@@ -21,7 +19,6 @@ pub enum Reading {
 
 // The header of the block at p.
 fn header_at(log: &[u8], p: usize) -> Header
-    requires { ⌜ p + 302 ≤ length (now log) ⌝ }
     ensures { λ h. ⌜ h ≡ headerIn (source (bitsAt (now (log .entry)) p)) ⌝ }
 {
     record::header_from(numbers_at(log, p, 8, record::header_widths()))
@@ -29,7 +26,6 @@ fn header_at(log: &[u8], p: usize) -> Header
 
 // The record of the block at p.
 fn record_at(log: &[u8], p: usize) -> Record
-    requires { ⌜ p + 302 ≤ length (now log) ⌝ }
     ensures { λ r. ⌜ r ≡ recordOf (source (bitsAt (now (log .entry)) p)) ⌝ }
 {
     let header = header_at(log, p);

@@ -6,6 +6,7 @@ use Prim.Native.Nat.{ℕ, _+_, _%_, _<_, _≤_}
 use borrow.Author.Tests.{le-ltb}
 use lib.Dec.{ltb}
 use lib.ListN.{getD}
+use Rattle.bits.specs.Bits.{Bits}
 use Rattle.layout.specs.Field.{readField}
 use Rattle.layout.specs.Layout.{decode, encode, allWithin}
 use Rattle.layout.specs.Layouts.{encode-decode, decode-within}
@@ -68,9 +69,13 @@ module _ (s : List ℕ) where
       (ap₂ _&&_ (ap not (ap (λ (x : Header). ltb 100799 (x .count)) record-header ∙ le-ltb 100799 (headerIn s .count) c))
       (kind-of-record (kindIn s) (kind-belongs (headerIn s .subframe) (dataIdIn s) (idIn s) l h)))
 
--- two records are the same only where their bits are
+-- two records are the same only where their bits are, of the header or of the fields
+same-run : (bits : Record → Bits) (at n : ℕ) → ((s : List ℕ) (j : ℕ) → j < n → bits (recordOf s) j ≡ getD s (at + j) 0 % 2)
+    → (s t : List ℕ) → recordOf s ≡ recordOf t → (j : ℕ) → j < n → getD s (at + j) 0 % 2 ≡ getD t (at + j) 0 % 2
+same-run bits at n are s t e j h = sym (are s j h) ∙ ap (λ (r : Record). bits r j) e ∙ are t j h
+
 pub same-header-bits : (s t : List ℕ) → recordOf s ≡ recordOf t → (j : ℕ) → j < 38 → getD s (8 + j) 0 % 2 ≡ getD t (8 + j) 0 % 2
-same-header-bits s t e j h = sym (header-bits s j h) ∙ ap (λ (r : Record). headerBits r j) e ∙ header-bits t j h
+same-header-bits = same-run headerBits 8 38 header-bits
 
 pub same-record-bits : (s t : List ℕ) → recordOf s ≡ recordOf t → (j : ℕ) → j < 190 → getD s (48 + j) 0 % 2 ≡ getD t (48 + j) 0 % 2
-same-record-bits s t e j h = sym (record-bits s j h) ∙ ap (λ (r : Record). recordBits r j) e ∙ record-bits t j h
+same-record-bits = same-run recordBits 48 190 record-bits

@@ -1,7 +1,7 @@
 -- `main` is safe and ends. The invariant: what is read lies in the buffer, and `at` in what is read.
 use Prim.Native.Nat.{_≤_, _-_}
-use lib.ListN.{length}
 use borrow.Author.Needs.{needs}
+use lib.ListN.{length}
 use Rattle.words.proofs.main.Statement.{statement}
 use Rattle.words.proofs.main.Tie as tie
 

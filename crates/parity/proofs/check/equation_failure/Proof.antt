@@ -2,9 +2,9 @@
 use mathlib.Core.Path.{ap, _∙_}
 use Prim.Native.Nat.{ℕ, _%_}
 use native.Mathlib.Omega.{arith}
+use borrow.Author.Needs.{needs}
 use lib.Bits.{bitAnd}
 use lib.Count.{ones}
-use borrow.Author.Needs.{needs}
 use Rattle.parity.proofs.check.Masks.{mask-failure}
 use Rattle.parity.proofs.check.equation_failure.Statement.{statement}
 use Rattle.parity.proofs.check.equation_failure.Tie as tie

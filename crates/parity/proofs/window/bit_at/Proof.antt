@@ -3,8 +3,8 @@ use mathlib.Core.Path.{_≡_, sym, ap}
 use mathlib.Core.List.{List}
 use Prim.Native.Nat.{ℕ, _+_, _%_, _≤_}
 use native.Mathlib.Omega.{arith}
-use lib.ListN.{length, getD, List·getD-eq-default}
 use borrow.Author.Needs.{needs}
+use lib.ListN.{length, getD, List·getD-eq-default}
 use Rattle.parity.proofs.window.bit_at.Statement.{statement}
 use Rattle.parity.proofs.window.bit_at.Tie as tie
 

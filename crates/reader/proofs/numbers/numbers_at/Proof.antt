@@ -39,7 +39,7 @@ number-at-requires : tie.Need-number-at-requires Inv-loop μ-loop
 number-at-requires c κs =
     let s = c .before .before .before in
     let room = offset-room (s .args .t4) (c .before .loop .i) 19 (omega arith) in
-    (s .pre .0, (omega (arith, room, s .pre .1 .0), s .pre .1 .1 (c .before .loop .i)))
+    (omega (arith, room, s .pre .0), s .pre .1 (c .before .loop .i))
 
 mul-numbers : tie.Need-mul-numbers Inv-loop μ-loop
 mul-numbers c = omega arith
@@ -50,7 +50,7 @@ array-write-numbers c = omega arith
 add-place : tie.Need-add-place Inv-loop μ-loop
 add-place c =
     let s = c .before .before .before .before in
-    omega (arith, offset-room (s .args .t4) (c .before .before .loop .i) 19 (omega arith), s .pre .1 .0)
+    omega (arith, offset-room (s .args .t4) (c .before .before .loop .i) 19 (omega arith), s .pre .0)
 
 add-i : tie.Need-add-i Inv-loop μ-loop
 add-i c = omega arith

@@ -13,7 +13,7 @@ use Rattle.reader.proofs.reader.header_at.Tie as tie
 
 numbers-at-requires : tie.Need-numbers-at-requires
 numbers-at-requires c κs =
-    (c .before .before .pre, table-room 38 headerFields header-sound 8 240 (omega arith) (c .header-widths .result) (c .header-widths .ensures))
+    table-room 38 headerFields header-sound 8 240 (omega arith) (c .header-widths .result) (c .header-widths .ensures)
 
 returns : tie.Need-returns
 unfolding headerIn

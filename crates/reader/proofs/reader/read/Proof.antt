@@ -7,7 +7,6 @@ use Rattle.answer.specs.Answer as A
 use Rattle.block.specs.Block.{source}
 use Rattle.block.specs.Check.{checkedAnswer}
 use Rattle.block.specs.Compare.{Accepted}
-use Rattle.block.specs.Acceptance.{acceptance}
 use Rattle.record.specs.Source.{recordOf}
 use Rattle.reader.specs.Reading.{readingAnswer, reading}
 use Rattle.reader.proofs.reader.read.Statement.{statement}
@@ -16,9 +15,6 @@ use Rattle.reader.proofs.reader.read.Tie as tie
 accepted : (c : tie.After-enum-told) → Accepted (c .before .before .before .before .args .log .now) (c .before .before .before .before .args .p)
 unfolding checkedAnswer
 accepted c = sym (c .before .before .check-block .ensures) ∙ ap checkedAnswer (c .enum-told .given .1)
-
-record-at-requires : tie.Need-record-at-requires
-record-at-requires c κs = acceptance _ _ .0 (accepted c) .0 .room
 
 returns : tie.Need-returns
 unfolding readingAnswer reading whenAccepted
@@ -38,4 +34,4 @@ returns-2 c =
 pub read-spec : {M : Type 1} → statement M
 read-spec =
     tie.close
-    (tie.spec (λ c κs. search needs) (λ c. search needs) record-at-requires (λ c. search needs) returns returns-2)
+    (tie.spec (λ c κs. search needs) (λ c. search needs) (λ c κs. search needs) (λ c. search needs) returns returns-2)

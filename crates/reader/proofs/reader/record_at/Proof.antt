@@ -20,7 +20,7 @@ use Rattle.reader.proofs.reader.record_at.Tie as tie
 numbers-at-requires : tie.Need-numbers-at-requires
 numbers-at-requires c κs =
     let k = c .before .kind-for .result in
-    (c .before .before .before .before .before .before .pre, table-room 190 (fieldsOf k) (fields-sound k) _ 240 (omega arith) (c .widths .result) (c .widths .ensures))
+    table-room 190 (fieldsOf k) (fields-sound k) _ 240 (omega arith) (c .widths .result) (c .widths .ensures)
 
 -- the record that is made of the kind, the header and the fields' values is the record of the source bits
 made : (s : List ℕ) (k : Kind) (h : Header) (d i : ℕ) → k ≡ kindFor (h .subframe) d i → h ≡ headerIn s → d ≡ dataIdIn s → i ≡ idIn s
