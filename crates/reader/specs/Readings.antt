@@ -7,7 +7,7 @@ use native.Mathlib.Omega.{arith}
 use Rattle.bits.specs.Bits.{bitsAt}
 use Rattle.layout.specs.Field.{readField}
 use Rattle.layout.specs.Layout.{decode}
-use Rattle.answer.specs.Answer.{Answer, accepted, number, detail, whenAccepted}
+use Rattle.answer.specs.Answer.{Answer, accepted, refused, number, detail, whenAccepted}
 use Rattle.answer.specs.Lines.{refused-not, accepted-injective, when-number, when-detail, when-accepts, refusal-injective}
 use Rattle.block.specs.Block.{Block, count, subframeNumber, source}
 use Rattle.block.specs.Check.{blockCheck}
@@ -44,6 +44,11 @@ module _ (s : List ℕ) (p : ℕ) where
   pub reads : Accepted s p → reading s p ≡ accepted (recordOf (source (bitsAt s p)))
   unfolding reading whenAccepted
   reads h = ap (λ (x : Answer (Unit {0})). whenAccepted x (recordOf (source (bitsAt s p)))) h
+
+  -- what the block check refuses is refused with the same number and detail
+  pub reads-refusal : (n d : ℕ) → blockCheck s p ≡ refused n d → reading s p ≡ refused n d
+  unfolding reading whenAccepted
+  reads-refusal n d h = ap (λ (x : Answer (Unit {0})). whenAccepted x (recordOf (source (bitsAt s p)))) h
 
   -- and only an accepted block is read
   pub read-accepted : (r : Record) → reading s p ≡ accepted r → Accepted s p × (r ≡ recordOf (source (bitsAt s p)))

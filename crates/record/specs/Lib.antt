@@ -5,8 +5,10 @@ pub mod Record
 pub mod Writable
 pub mod Source
 pub mod Examples
+pub mod Positions
 pub mod Sound
 pub mod Kinds
 pub mod Records
 pub mod Held
 pub mod ExamplesHold
+pub mod PositionsHold
