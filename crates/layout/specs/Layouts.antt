@@ -15,14 +15,14 @@ use Rattle.layout.specs.Layout.{Layout, size, Values, decode, encode, al
 use Rattle.layout.specs.Fields.{read-bits, bits-read, read-within, read-same}
 
 -- each field has 1 to 32 bits
-unfoldable pub proper : Layout → Bool
-proper [] = true
-proper (f ∷ l) = (leb 1 (width f) && leb (width f) 32) && proper l
+unfoldable pub widths1to32 : Layout → Bool
+widths1to32 [] = true
+widths1to32 (f ∷ l) = (leb 1 (width f) && leb (width f) 32) && widths1to32 l
 
-pub proper-first : (f : Field) (l : Layout) → proper (f ∷ l) ≡ true → (1 ≤ width f) × (width f ≤ 32) × (proper l ≡ true)
-unfolding proper
-proper-first f l h =
-    let a = and-true (leb 1 (width f) && leb (width f) 32) (proper l) h in
+pub widths1to32-first : (f : Field) (l : Layout) → widths1to32 (f ∷ l) ≡ true → (1 ≤ width f) × (width f ≤ 32) × (widths1to32 l ≡ true)
+unfolding widths1to32
+widths1to32-first f l h =
+    let a = and-true (leb 1 (width f) && leb (width f) 32) (widths1to32 l) h in
     let b = and-true (leb 1 (width f)) (leb (width f) 32) (a .0) in
     (leb-true 1 (width f) (b .0), leb-true (width f) 32 (b .1), a .1)
 
@@ -64,14 +64,14 @@ decode-encode (f ∷ l) v at bits w h =
         ap (λ (n : ℕ). getD bits n 0 % 2) place ∙ h (width f + j) (omega arith) ∙ ap (λ (x : ℕ). x % 2) (encode-tail f l v j)
 
 -- the bits of values that were read are the bits that they were read from
-pub encode-decode : (l : Layout) → proper l ≡ true → (at : ℕ) (bits : List ℕ) (j : ℕ) → j < size l → encode l (decode l at bits) j ≡ getD bits (at + j) 0 % 2
+pub encode-decode : (l : Layout) → widths1to32 l ≡ true → (at : ℕ) (bits : List ℕ) (j : ℕ) → j < size l → encode l (decode l at bits) j ≡ getD bits (at + j) 0 % 2
 unfolding decode size
 encode-decode [] p at bits j h = absurd (omega arith)
-encode-decode (f ∷ l) p at bits j h = go (encode-decode l (proper-first f l p .2) (at + width f) bits) (decLt j (width f))
+encode-decode (f ∷ l) p at bits j h = go (encode-decode l (widths1to32-first f l p .2) (at + width f) bits) (decLt j (width f))
   where
     go : ((i : ℕ) → i < size l → encode l (decode l (at + width f) bits) i ≡ getD bits (at + width f + i) 0 % 2) → Dec (j < width f)
         → encode (f ∷ l) (decode (f ∷ l) at bits) j ≡ getD bits (at + j) 0 % 2
-    go rest (yes m) = encode-head f l (decode (f ∷ l) at bits) j m ∙ bits-read f (bitsAt bits at) (proper-first f l p .0) j m
+    go rest (yes m) = encode-head f l (decode (f ∷ l) at bits) j m ∙ bits-read f (bitsAt bits at) (widths1to32-first f l p .0) j m
     go rest (no m) =
         let there : width f + (j - width f) ≡ j = omega arith in
         let place : at + width f + (j - width f) ≡ at + j = omega arith in
@@ -81,9 +81,9 @@ encode-decode (f ∷ l) p at bits j h = go (encode-decode l (proper-first f l p 
         ∙ ap (λ (n : ℕ). getD bits n 0 % 2) place
 
 -- what is read is within its fields
-pub decode-within : (l : Layout) → proper l ≡ true → (at : ℕ) (bits : List ℕ) → allWithin l (decode l at bits) ≡ true
+pub decode-within : (l : Layout) → widths1to32 l ≡ true → (at : ℕ) (bits : List ℕ) → allWithin l (decode l at bits) ≡ true
 unfolding decode allWithin
 decode-within [] p at bits = refl
 decode-within (f ∷ l) p at bits =
-    let q = proper-first f l p in
+    let q = widths1to32-first f l p in
     ap₂ _&&_ (read-within f (bitsAt bits at) (q .0)) (decode-within l (q .2) (at + width f) bits)

@@ -6,3 +6,4 @@ pub mod Fields
 pub mod Signs
 pub mod Layouts
 pub mod Tables
+pub mod Machine

@@ -13,7 +13,7 @@ use Rattle.bits.specs.Tests.{everyBelow-first}
 use Rattle.bits.specs.Tabulated.{tabulate-at}
 use Rattle.layout.specs.Field.{width, valueOf, readField}
 use Rattle.layout.specs.Fields.{number-within}
-use Rattle.layout.specs.Layouts.{proper, proper-first}
+use Rattle.layout.specs.Layouts.{widths1to32, widths1to32-first}
 use Rattle.layout.specs.Layout.{Layout, size, Values, decode, allWithin}
 use Rattle.layout.specs.Table.{widths, numbers, valuesFrom, offset, numbersAt, allFit}
 
@@ -35,13 +35,13 @@ holds n [] h = tt
 holds zero (f ∷ l) h = absurd (omega arith)
 holds (suc n) (f ∷ l) h = (refl, later (width f) (widths n l) 0 l (holds n l (omega arith)))
 
-pub widths-most : (n : ℕ) (l : Layout) → proper l ≡ true → (i : ℕ) → getD (widths n l) i 0 ≤ 32
+pub widths-most : (n : ℕ) (l : Layout) → widths1to32 l ≡ true → (i : ℕ) → getD (widths n l) i 0 ≤ 32
 unfolding widths
 widths-most zero l p i = omega arith
 widths-most (suc n) [] p zero = omega arith
 widths-most (suc n) [] p (suc i) = widths-most n [] p i
-widths-most (suc n) (f ∷ l) p zero = proper-first f l p .1
-widths-most (suc n) (f ∷ l) p (suc i) = widths-most n l (proper-first f l p .2) i
+widths-most (suc n) (f ∷ l) p zero = widths1to32-first f l p .1
+widths-most (suc n) (f ∷ l) p (suc i) = widths-most n l (widths1to32-first f l p .2) i
 
 -- ---- how many bits stand before an entry
 

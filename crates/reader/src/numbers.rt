@@ -16,7 +16,7 @@ fn source_bit(log: &[u8], p: usize, i: usize) -> u32
 }
 
 // The number in the `width` source bits from index `at` on, the first highest.
-pub fn number_at(log: &[u8], p: usize, at: usize, width: usize) -> u32
+pub(crate) fn number_at(log: &[u8], p: usize, at: usize, width: usize) -> u32
     requires { ⌜ (at + width ≤ 240) × (width ≤ 32) ⌝ }
     ensures { λ r. ⌜ r ≡ pack width (bitsAt (source (bitsAt (now (log .entry)) p)) at) ⌝ }
 {
@@ -30,7 +30,7 @@ pub fn number_at(log: &[u8], p: usize, at: usize, width: usize) -> u32
 }
 
 // The numbers that stand one after the other in these widths from index `at` on.
-pub fn numbers_at(log: &[u8], p: usize, at: usize, widths: [usize; 19]) -> [u32; 19]
+pub(crate) fn numbers_at(log: &[u8], p: usize, at: usize, widths: [usize; 19]) -> [u32; 19]
     requires { ⌜ (at + offset widths 19 ≤ 240) × ((i : ℕ) → getD widths i 0 ≤ 32) ⌝ }
     ensures { λ r. ⌜ r ≡ numbersAt 19 widths at (source (bitsAt (now (log .entry)) p)) ⌝ }
 {

@@ -17,14 +17,12 @@ pub enum Reading {
     Refused(Refusal),
 }
 
-// The header of the block at p.
 fn header_at(log: &[u8], p: usize) -> Header
     ensures { λ h. ⌜ h ≡ headerIn (source (bitsAt (now (log .entry)) p)) ⌝ }
 {
     record::header_from(numbers_at(log, p, 8, record::header_widths()))
 }
 
-// The record of the block at p.
 fn record_at(log: &[u8], p: usize) -> Record
     ensures { λ r. ⌜ r ≡ recordOf (source (bitsAt (now (log .entry)) p)) ⌝ }
 {

@@ -10,15 +10,13 @@ use Rattle.bits.specs.Bits.{Bits}
 use Rattle.layout.specs.Field.{readField}
 use Rattle.layout.specs.Layout.{decode, encode, allWithin}
 use Rattle.layout.specs.Layouts.{encode-decode, decode-within}
-use Rattle.record.specs.Kinds.{belongs, kind-belongs}
+use Rattle.record.specs.Kinds.{kind-cases}
 use Rattle.record.specs.Fields.{headerFields, fieldsOf}
 use Rattle.record.specs.Record.{recordWith, header, headerValues}
 use Rattle.record.specs.Records.{with-header, with-fields}
 use Rattle.record.specs.Source.{headerIn, dataIdIn, idIn, kindIn, recordOf, headerBits, recordBits}
 use Rattle.record.specs.Sound.{header-sound, fields-sound}
 use Rattle.record.specs.Writable.{withinFields, ofItsKind, writable}
-use Rattle.record.specs.declared.kind.Kind.{Kind}
-use Rattle.record.specs.declared.kind.Kind.the-variants.{Subframe1, Subframe2, Subframe3, Almanac, Utc, Other}
 use Rattle.record.specs.declared.record.Header.{Header}
 use Rattle.record.specs.declared.record.Record.{Record}
 
@@ -28,7 +26,7 @@ module _ (s : List ℕ) where
   record-header = with-header (kindIn s) (headerIn s) (decode (fieldsOf (kindIn s)) 48 s)
 
   within-record : allWithin (fieldsOf (kindIn s)) (decode (fieldsOf (kindIn s)) 48 s) ≡ true
-  within-record = decode-within (fieldsOf (kindIn s)) (fields-sound (kindIn s) .proper-widths) 48 s
+  within-record = decode-within (fieldsOf (kindIn s)) (fields-sound (kindIn s) .widths-right) 48 s
 
   -- ---- the bits
 
@@ -36,13 +34,13 @@ module _ (s : List ℕ) where
   unfolding headerBits headerIn
   header-bits j h =
       ap (λ (x : Header). encode headerFields (headerValues x) j) record-header
-      ∙ encode-decode headerFields (header-sound .proper-widths) 8 s j (rw (header-sound .bits) h)
+      ∙ encode-decode headerFields (header-sound .widths-right) 8 s j (rw (header-sound .bits) h)
 
   pub record-bits : (j : ℕ) → j < 190 → recordBits (recordOf s) j ≡ getD s (48 + j) 0 % 2
   unfolding recordBits recordOf
   record-bits j h =
       with-fields (λ k v. encode (fieldsOf k) v j ≡ getD s (48 + j) 0 % 2) (kindIn s) (headerIn s) (decode (fieldsOf (kindIn s)) 48 s) within-record
-      (encode-decode (fieldsOf (kindIn s)) (fields-sound (kindIn s) .proper-widths) 48 s j (rw (fields-sound (kindIn s) .bits) h))
+      (encode-decode (fieldsOf (kindIn s)) (fields-sound (kindIn s) .widths-right) 48 s j (rw (fields-sound (kindIn s) .bits) h))
 
   -- ---- the writer takes it
 
@@ -50,24 +48,20 @@ module _ (s : List ℕ) where
   unfolding withinFields recordOf headerIn
   within-fields =
       ap₂ _&&_
-      (ap (λ (x : Header). allWithin headerFields (headerValues x)) record-header ∙ decode-within headerFields (header-sound .proper-widths) 8 s)
+      (ap (λ (x : Header). allWithin headerFields (headerValues x)) record-header ∙ decode-within headerFields (header-sound .widths-right) 8 s)
       (with-fields (λ k v. allWithin (fieldsOf k) v ≡ true) (kindIn s) (headerIn s) (decode (fieldsOf (kindIn s)) 48 s) within-record within-record)
 
-  kind-of-record : (k : Kind) → belongs k (headerIn s .subframe) (dataIdIn s) (idIn s) ≡ true → ofItsKind (recordWith k (headerIn s) (decode (fieldsOf k) 48 s)) ≡ true
-  unfolding ofItsKind decode readField dataIdIn idIn
-  kind-of-record Subframe1 h = h
-  kind-of-record Subframe2 h = h
-  kind-of-record Subframe3 h = h
-  kind-of-record Almanac h = h
-  kind-of-record Utc h = h
-  kind-of-record Other h = h
+  of-its-kind : 1 ≤ headerIn s .subframe → headerIn s .subframe ≤ 5 → ofItsKind (recordOf s) ≡ true
+  unfolding recordOf kindIn ofItsKind decode readField dataIdIn idIn
+  of-its-kind l h =
+      kind-cases (λ k. ofItsKind (recordWith k (headerIn s) (decode (fieldsOf k) 48 s)) ≡ true) (headerIn s .subframe) (dataIdIn s) (idIn s) l h
+      (λ e. e) (λ e. e) (λ e. e) (λ e. e) (λ e. e) (λ e. e)
 
   pub record-writable : 1 ≤ headerIn s .subframe → headerIn s .subframe ≤ 5 → headerIn s .count ≤ 100799 → writable (recordOf s) ≡ true
-  unfolding writable recordOf kindIn
+  unfolding writable
   record-writable l h c =
       ap₂ _&&_ within-fields
-      (ap₂ _&&_ (ap not (ap (λ (x : Header). ltb 100799 (x .count)) record-header ∙ le-ltb 100799 (headerIn s .count) c))
-      (kind-of-record (kindIn s) (kind-belongs (headerIn s .subframe) (dataIdIn s) (idIn s) l h)))
+      (ap₂ _&&_ (ap not (ap (λ (x : Header). ltb 100799 (x .count)) record-header ∙ le-ltb 100799 (headerIn s .count) c)) (of-its-kind l h))
 
 -- two records are the same only where their bits are, of the header or of the fields
 same-run : (bits : Record → Bits) (at n : ℕ) → ((s : List ℕ) (j : ℕ) → j < n → bits (recordOf s) j ≡ getD s (at + j) 0 % 2)

@@ -9,7 +9,7 @@ use lib.Dec.{eqb, leb}
 use lib.ListN.{length, getD}
 use Rattle.bits.specs.Tests.{and-true}
 use Rattle.layout.specs.Layout.{Layout, size, decode}
-use Rattle.layout.specs.Layouts.{proper}
+use Rattle.layout.specs.Layouts.{widths1to32}
 use Rattle.layout.specs.Table.{widths, valuesFrom, offset, numbersAt}
 use Rattle.layout.specs.Tables.{offset-size, widths-most, table-values}
 use Rattle.record.specs.Fields.{headerFields, fieldsOf}
@@ -18,27 +18,27 @@ use Rattle.record.specs.declared.kind.Kind.the-variants.{Subframe1, Subf
 
 -- n bits in all, at most 19 fields, and each of 1 to 32 bits
 isSound : ℕ → Layout → Bool
-isSound n l = eqb (size l) n && (leb (length l) 19 && proper l)
+isSound n l = eqb (size l) n && (leb (length l) 19 && widths1to32 l)
 
 pub record Sound (n : ℕ) (l : Layout) : Type 0 where
   pub bits : size l ≡ n
   pub few : length l ≤ 19
-  pub proper-widths : proper l ≡ true
+  pub widths-right : widths1to32 l ≡ true
 
 sound : (n : ℕ) (l : Layout) → isSound n l ≡ true → Sound n l
 unfolding isSound
 sound n l h =
-    let a = and-true (eqb (size l) n) (leb (length l) 19 && proper l) h in
-    let b = and-true (leb (length l) 19) (proper l) (a .1) in
-    record { bits = eqb-true (size l) n (a .0); few = leb-true (length l) 19 (b .0); proper-widths = b .1 }
+    let a = and-true (eqb (size l) n) (leb (length l) 19 && widths1to32 l) h in
+    let b = and-true (leb (length l) 19) (widths1to32 l) (a .1) in
+    record { bits = eqb-true (size l) n (a .0); few = leb-true (length l) 19 (b .0); widths-right = b .1 }
 
 -- the header has 38 bits, and each kind 190
 pub header-sound : Sound 38 headerFields
-unfolding isSound size proper
+unfolding isSound size widths1to32
 header-sound = sound 38 headerFields refl
 
 tested : (k : Kind) → isSound 190 (fieldsOf k) ≡ true
-unfolding isSound size proper
+unfolding isSound size widths1to32
 tested Subframe1 = refl
 tested Subframe2 = refl
 tested Subframe3 = refl
@@ -56,7 +56,7 @@ module _ (n : ℕ) (l : Layout) (h : Sound n l) where
   pub table-room : (at bound : ℕ) → at + n ≤ bound → (ws : List ℕ) → ws ≡ widths 19 l → (at + offset ws 19 ≤ bound) × ((i : ℕ) → getD ws i 0 ≤ 32)
   table-room at bound r ws e =
       subst (λ (x : List ℕ). (at + offset x 19 ≤ bound) × ((i : ℕ) → getD x i 0 ≤ 32)) (sym e)
-      (omega (arith, offset-size 19 l (h .few), h .bits), widths-most 19 l (h .proper-widths))
+      (omega (arith, offset-size 19 l (h .few), h .bits), widths-most 19 l (h .widths-right))
 
   -- the numbers that stand in it are the values
   pub table-decode : (at : ℕ) (bits ws ns : List ℕ) → ws ≡ widths 19 l → ns ≡ numbersAt 19 ws at bits → valuesFrom l 0 ns ≡ decode l at bits

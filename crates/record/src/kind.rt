@@ -1,6 +1,8 @@
 // The kinds of record, and which kind a subframe is.
+use crate::record::Record;
 ghost use mathlib.Core.Path.{_≡_};
-ghost use Rattle.record.specs.Kind.{isPage, isAlmanac, isUtc, kindFor};
+ghost use Rattle.record.specs.Kind.{isPage, isAlmanac, isUtc, isOther, kindFor};
+ghost use Rattle.record.specs.Record.{kindOf};
 
 pub enum Kind {
     Subframe1,
@@ -12,7 +14,7 @@ pub enum Kind {
 }
 
 // Whether a subframe with this number holds a page.
-pub fn is_page(subframe: u32) -> bool
+pub(crate) fn is_page(subframe: u32) -> bool
     ensures { λ r. ⌜ r ≡ isPage subframe ⌝ }
 {
     if subframe == 4 {
@@ -22,7 +24,7 @@ pub fn is_page(subframe: u32) -> bool
 }
 
 // Whether a page with this data ID field and ID is an almanac page.
-pub fn is_almanac(subframe: u32, data_id: u32, id: u32) -> bool
+pub(crate) fn is_almanac(subframe: u32, data_id: u32, id: u32) -> bool
     ensures { λ r. ⌜ r ≡ isAlmanac subframe data_id id ⌝ }
 {
     if !is_page(subframe) {
@@ -38,7 +40,7 @@ pub fn is_almanac(subframe: u32, data_id: u32, id: u32) -> bool
 }
 
 // Whether it is the UTC page.
-pub fn is_utc(subframe: u32, data_id: u32, id: u32) -> bool
+pub(crate) fn is_utc(subframe: u32, data_id: u32, id: u32) -> bool
     ensures { λ r. ⌜ r ≡ isUtc subframe data_id id ⌝ }
 {
     if subframe != 4 {
@@ -48,6 +50,19 @@ pub fn is_utc(subframe: u32, data_id: u32, id: u32) -> bool
         return false;
     }
     data_id == 1
+}
+
+// Whether a page with this data ID field and ID is neither an almanac page nor the UTC page.
+pub(crate) fn is_other(subframe: u32, data_id: u32, id: u32) -> bool
+    ensures { λ r. ⌜ r ≡ isOther subframe data_id id ⌝ }
+{
+    if !is_page(subframe) {
+        return false;
+    }
+    if is_almanac(subframe, data_id, id) {
+        return false;
+    }
+    !is_utc(subframe, data_id, id)
 }
 
 // The kind of a subframe by its number, its data ID field and its ID. Only subframes 4 and 5 have the two; numbers outside 1 to 5 are
@@ -71,4 +86,17 @@ pub fn kind_for(subframe: u32, data_id: u32, id: u32) -> Kind
         return Kind::Utc;
     }
     Kind::Other
+}
+
+pub(crate) fn kind_of(r: Record) -> Kind
+    ensures { λ k. ⌜ k ≡ kindOf r ⌝ }
+{
+    match r {
+        Record::Subframe1(_) => Kind::Subframe1,
+        Record::Subframe2(_) => Kind::Subframe2,
+        Record::Subframe3(_) => Kind::Subframe3,
+        Record::Almanac(_) => Kind::Almanac,
+        Record::Utc(_) => Kind::Utc,
+        Record::Other(_) => Kind::Other,
+    }
 }

@@ -1,16 +1,17 @@
 // The records of the message: the six kinds, and which of them the writer takes.
 mod from_numbers;
 mod kind;
+mod number_11;
 mod numbers;
 mod record;
 mod signs;
 mod tables;
-mod taken;
 
 pub use from_numbers::header_from;
 pub use from_numbers::record_from;
 pub use kind::Kind;
 pub use kind::kind_for;
+pub use number_11::writable;
 pub use record::AlmanacPage;
 pub use record::Header;
 pub use record::OtherPage;
@@ -21,4 +22,3 @@ pub use record::Subframe3;
 pub use record::UtcPage;
 pub use tables::header_widths;
 pub use tables::widths;
-pub use taken::writable;

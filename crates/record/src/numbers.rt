@@ -14,7 +14,7 @@ ghost use Rattle.layout.specs.Table as Table;
 ghost use Rattle.record.specs.Fields.{headerFields, subframe1Fields, subframe2Fields, subframe3Fields, almanacFields, utcFields, otherFields, fieldsOf};
 ghost use Rattle.record.specs.Record.{kindOf, headerValues, subframe1Values, subframe2Values, subframe3Values, almanacValues, utcValues, otherValues, fieldValues};
 
-pub fn header_numbers(h: Header) -> [u32; 19]
+pub(crate) fn header_numbers(h: Header) -> [u32; 19]
     ensures { λ n. ⌜ n ≡ Table.numbers 19 headerFields (headerValues h) ⌝ }
 {
     [
@@ -198,7 +198,7 @@ fn other_numbers(r: OtherPage) -> [u32; 19]
 }
 
 // The numbers of a record's fields of words 3 to 10.
-pub fn field_numbers(r: Record) -> [u32; 19]
+pub(crate) fn field_numbers(r: Record) -> [u32; 19]
     ensures { λ n. ⌜ n ≡ Table.numbers 19 (fieldsOf (kindOf r)) (fieldValues r) ⌝ }
 {
     match r {

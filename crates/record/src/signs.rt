@@ -31,7 +31,7 @@ fn below_zero(m: u32) -> i32
 }
 
 // The number n of `width` bits, read in two's complement.
-pub fn signed_of(n: u32, width: usize) -> i32
+pub(crate) fn signed_of(n: u32, width: usize) -> i32
     requires { ⌜ (0 < width) × (width ≤ 32) ⌝ }
     ensures { λ r. ⌜ (r ≡ signed width n) × SFits w32 r ⌝ }
 {
@@ -48,7 +48,7 @@ pub fn signed_of(n: u32, width: usize) -> i32
 }
 
 // The number of `width` bits that reads as v, or 2^width where v is not one of `width` bits.
-pub fn unsigned_of(v: i32, width: usize) -> u32
+pub(crate) fn unsigned_of(v: i32, width: usize) -> u32
     requires { ⌜ (0 < width) × (width ≤ 32) ⌝ }
     ensures { λ r. ⌜ r ≡ unsigned width v ⌝ }
 {

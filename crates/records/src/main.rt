@@ -27,16 +27,14 @@ fn print_field(name: &[u8], value: u32) {
     io::print_decimal(STDOUT_FILENO, value as u64);
 }
 
-// The absolute value. It is taken in 64 bits, since that of -2^31 is no i32.
+// The absolute value. That of -2^31 is no i32, so 1 is added last.
 fn absolute(value: i32) -> u64
     ensures { λ r. ⌜ r ≡ natAbs value ⌝ }
 {
-    let wide = value as i64;
-    if wide < 0 {
-        (-wide) as u64
-    } else {
-        wide as u64
+    if value < 0 {
+        return (-1 - value) as u64 + 1;
     }
+    value as u64
 }
 
 fn print_signed(name: &[u8], value: i32) {

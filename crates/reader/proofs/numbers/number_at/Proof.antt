@@ -27,23 +27,11 @@ mul-n c =
     let a = c .before .before .before .args in
     omega (arith, pack-room 32 (c .before .loop .i) (bits (a .log .now) (a .p) (a .at)) (omega arith))
 
-add-source-bit : tie.Need-add-source-bit Inv-loop μ-loop
-add-source-bit c = omega arith
-
-source-bit-requires : tie.Need-source-bit-requires Inv-loop μ-loop
-source-bit-requires c κs = omega arith
-
 add-n : tie.Need-add-n Inv-loop μ-loop
 add-n c =
     let at = c .before .before in
     let a = at .before .before .args in
     omega (arith, pack-room 32 (at .loop .i) (bits (a .log .now) (a .p) (a .at)) (omega arith), c .source-bit .ensures .1)
-
-add-i : tie.Need-add-i Inv-loop μ-loop
-add-i c = omega arith
-
-loop-less : tie.Need-loop-less Inv-loop μ-loop
-loop-less c = omega arith
 
 loop-again : tie.Need-loop-again Inv-loop μ-loop
 loop-again c =
@@ -60,15 +48,4 @@ returns c =
 pub number-at-spec : {M : Type 1} → statement M
 number-at-spec =
     tie.close
-    (tie.spec
-    Inv-loop
-    μ-loop
-    loop-holds
-    mul-n
-    add-source-bit
-    source-bit-requires
-    add-n
-    add-i
-    loop-less
-    loop-again
-    returns)
+    (tie.spec Inv-loop μ-loop loop-holds mul-n (λ c. omega arith) (λ c κs. omega arith) add-n (λ c. omega arith) (λ c. omega arith) loop-again returns)

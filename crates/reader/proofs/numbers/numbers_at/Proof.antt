@@ -29,34 +29,16 @@ loop-holds : tie.Need-loop-holds Inv-loop μ-loop
 unfolding offset
 loop-holds c = (omega arith, refl, omega arith, below-none _)
 
-mul-width : tie.Need-mul-width Inv-loop μ-loop
-mul-width c = omega arith
-
-array-read-width : tie.Need-array-read-width Inv-loop μ-loop
-array-read-width c = omega arith
-
 number-at-requires : tie.Need-number-at-requires Inv-loop μ-loop
 number-at-requires c κs =
     let s = c .before .before .before in
     let room = offset-room (s .args .t4) (c .before .loop .i) 19 (omega arith) in
     (omega (arith, room, s .pre .0), s .pre .1 (c .before .loop .i))
 
-mul-numbers : tie.Need-mul-numbers Inv-loop μ-loop
-mul-numbers c = omega arith
-
-array-write-numbers : tie.Need-array-write-numbers Inv-loop μ-loop
-array-write-numbers c = omega arith
-
 add-place : tie.Need-add-place Inv-loop μ-loop
 add-place c =
     let s = c .before .before .before .before in
     omega (arith, offset-room (s .args .t4) (c .before .before .loop .i) 19 (omega arith), s .pre .0)
-
-add-i : tie.Need-add-i Inv-loop μ-loop
-add-i c = omega arith
-
-loop-less : tie.Need-loop-less Inv-loop μ-loop
-loop-less c = omega arith
 
 loop-again : tie.Need-loop-again Inv-loop μ-loop
 loop-again c =
@@ -81,17 +63,4 @@ returns c =
 pub numbers-at-spec : {M : Type 1} → statement M
 numbers-at-spec =
     tie.close
-    (tie.spec
-    Inv-loop
-    μ-loop
-    loop-holds
-    mul-width
-    array-read-width
-    number-at-requires
-    mul-numbers
-    array-write-numbers
-    add-place
-    add-i
-    loop-less
-    loop-again
-    returns)
+    (tie.spec Inv-loop μ-loop loop-holds (λ c. omega arith) (λ c. omega arith) number-at-requires (λ c. omega arith) (λ c. omega arith) add-place (λ c. omega arith) (λ c. omega arith) loop-again returns)

@@ -1,16 +1,17 @@
--- `subframe1_from` meets its contract: each signed value is what its call ensures.
--- What `search` closes: an index of the 19 numbers, and a width of 1 to 32.
+-- `subframe1_from` meets its contract: each signed value is what its call ensures (ck is after call k). What `search` closes: an index of the
+-- 19 numbers, and a width of 1 to 32.
 use borrow.Author.Needs.{needs}
 use lib.ListN.{getD}
 use Rattle.layout.specs.Table.{valuesFrom}
-use Rattle.record.proofs.signs.Machine.{held}
+use Rattle.layout.specs.Machine.{in-struct}
 use Rattle.record.proofs.from_numbers.subframe1_from.Statement.{statement}
 use Rattle.record.proofs.from_numbers.subframe1_from.Tie as tie
 
 returns : tie.Need-returns
 unfolding valuesFrom
 returns c =
-    let a = c .before .before .before .before .args in
+    let c3 = c .before in let c2 = c3 .before in let c1 = c2 .before in
+    let a = c1 .before .args in
     λ i. record {
       header = a .header;
       week = getD (a .t2) 0 0;
@@ -23,12 +24,12 @@ returns c =
       reserved5 = getD (a .t2) 7 0;
       reserved6 = getD (a .t2) 8 0;
       reserved7 = getD (a .t2) 9 0;
-      tgd = held (c .before .before .before .signed-of .ensures) i;
+      tgd = in-struct (c1 .signed-of .ensures) i;
       «iodc_low» = getD (a .t2) 11 0;
       toc = getD (a .t2) 12 0;
-      af2 = held (c .before .before .signed-of2 .ensures) i;
-      af1 = held (c .before .signed-of3 .ensures) i;
-      af0 = held (c .signed-of4 .ensures) i;
+      af2 = in-struct (c2 .signed-of2 .ensures) i;
+      af1 = in-struct (c3 .signed-of3 .ensures) i;
+      af0 = in-struct (c .signed-of4 .ensures) i;
     }
 
 pub subframe1-from-spec : {M : Type 1} → statement M

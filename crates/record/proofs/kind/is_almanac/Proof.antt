@@ -8,9 +8,6 @@ use Rattle.record.specs.Kind.{isPage, isAlmanac}
 use Rattle.record.proofs.kind.is_almanac.Statement.{statement}
 use Rattle.record.proofs.kind.is_almanac.Tie as tie
 
-is-page-requires : tie.Need-is-page-requires
-is-page-requires c κs = search needs
-
 page : (c : tie.Else1) → isPage (c .before .before .args .subframe) ≡ true
 page c = sym (c .before .is-page .ensures) ∙ not-false _ (c .if1 .left)
 
@@ -44,4 +41,5 @@ returns-4 c =
     sym to-32
 
 pub is-almanac-spec : {M : Type 1} → statement M
-is-almanac-spec = tie.close (tie.spec is-page-requires returns returns-2 returns-3 returns-4)
+is-almanac-spec = tie.close
+    (tie.spec (λ c κs. search needs) returns returns-2 returns-3 returns-4)

@@ -19,18 +19,12 @@ returns-3 : tie.Need-returns-3
 unfolding kindFor
 returns-3 c = rw (ne-eqb _ _ (c .before .before .if1 .left), ne-eqb _ _ (c .before .if2 .left), eq-eqb _ _ (c .if3 .taken))
 
-is-almanac-requires : tie.Need-is-almanac-requires
-is-almanac-requires c κs = search needs
-
 returns-4 : tie.Need-returns-4
 unfolding kindFor
 returns-4 c =
     let d = c .before .before in
     let almanac : isAlmanac _ _ _ ≡ true = sym (c .before .is-almanac .ensures) ∙ c .if4 .taken in
     rw (ne-eqb _ _ (d .before .before .if1 .left), ne-eqb _ _ (d .before .if2 .left), ne-eqb _ _ (d .if3 .left), almanac)
-
-is-utc-requires : tie.Need-is-utc-requires
-is-utc-requires c κs = search needs
 
 returns-5 : tie.Need-returns-5
 unfolding kindFor
@@ -51,12 +45,4 @@ returns-6 c =
 pub kind-for-spec : {M : Type 1} → statement M
 kind-for-spec =
     tie.close
-    (tie.spec
-    returns
-    returns-2
-    returns-3
-    is-almanac-requires
-    returns-4
-    is-utc-requires
-    returns-5
-    returns-6)
+    (tie.spec returns returns-2 returns-3 (λ c κs. search needs) returns-4 (λ c κs. search needs) returns-5 returns-6)

@@ -8,15 +8,6 @@ use lib.Pow.{pow-mono}
 use Rattle.record.proofs.signs.half_of.Statement.{statement}
 use Rattle.record.proofs.signs.half_of.Tie as tie
 
-sub-result : tie.Need-sub-result
-sub-result c = search needs
-
-cast-result : tie.Need-cast-result
-cast-result c = search needs
-
-shl-result : tie.Need-shl-result
-shl-result c = search needs
-
 shifted : (w : ℕ) → 0 < w → w ≤ 32 → (1 * 2 ^ (w - 1) % 4294967296 * 2 ≡ 2 ^ w) × (1 * 2 ^ (w - 1) % 4294967296 ≤ 2147483648)
 shifted zero p q = absurd (omega arith)
 shifted (suc v) p q =
@@ -27,4 +18,5 @@ returns : tie.Need-returns
 returns c = shifted (c .args .width) (c .pre .0) (c .pre .1)
 
 pub half-of-spec : {M : Type 1} → statement M
-half-of-spec = tie.close (tie.spec sub-result cast-result shl-result returns)
+half-of-spec = tie.close
+    (tie.spec (λ c. search needs) (λ c. search needs) (λ c. search needs) returns)

@@ -7,33 +7,15 @@ use lib.IntN.{pos, negsuc}
 use mir.Syntax.{w32}
 use mir.Val.{SFits, toZ, ofZ}
 use Rattle.layout.specs.Signs.{signed-low, signed-high}
-use Rattle.record.proofs.signs.Machine.{small, as-is}
+use Rattle.layout.specs.Machine.{small, as-is}
 use Rattle.record.proofs.signs.signed_of.Statement.{statement}
 use Rattle.record.proofs.signs.signed_of.Tie as tie
-
-half-of-requires : tie.Need-half-of-requires
-half-of-requires c κs = search needs
-
-cast-result : tie.Need-cast-result
-cast-result c = search needs
 
 returns : tie.Need-returns
 returns c =
     let a = c .before .before .args in
     let v : toZ w32 (a .n) ≡ pos (a .n) = small (a .n) (omega arith) in
     (v ∙ sym (signed-low (a .width) (a .n) (omega arith)), subst (SFits w32) (sym v) (record { sfits = omega arith }))
-
-sub-below-zero : tie.Need-sub-below-zero
-sub-below-zero c = search needs
-
-sub-below-zero-2 : tie.Need-sub-below-zero-2
-sub-below-zero-2 c = search needs
-
-below-zero-requires : tie.Need-below-zero-requires
-below-zero-requires c κs = search needs
-
-below-zero-requires-2 : tie.Need-below-zero-requires-2
-below-zero-requires-2 c κs = search needs
 
 returns-2 : tie.Need-returns-2
 returns-2 c =
@@ -54,13 +36,4 @@ returns-3 c =
 pub signed-of-spec : {M : Type 1} → statement M
 signed-of-spec =
     tie.close
-    (tie.spec
-    half-of-requires
-    cast-result
-    returns
-    sub-below-zero
-    sub-below-zero-2
-    below-zero-requires
-    below-zero-requires-2
-    returns-2
-    returns-3)
+    (tie.spec (λ c κs. search needs) (λ c. search needs) returns (λ c. search needs) (λ c. search needs) (λ c κs. search needs) (λ c κs. search needs) returns-2 returns-3)

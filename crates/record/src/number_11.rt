@@ -1,12 +1,13 @@
 // Which records the writer takes: number 11 refuses all others.
-use crate::kind::Kind;
 use crate::kind::is_almanac;
-use crate::kind::is_page;
+use crate::kind::is_other;
 use crate::kind::is_utc;
+use crate::kind::kind_of;
 use crate::numbers::field_numbers;
 use crate::numbers::header_numbers;
 use crate::record::Header;
 use crate::record::Record;
+use crate::record::header_of;
 use crate::tables::header_widths;
 use crate::tables::widths;
 ghost use mathlib.Core.Path.{_≡_};
@@ -16,8 +17,7 @@ ghost use lib.ListN.{getD};
 ghost use Rattle.layout.specs.Layout.{allWithin};
 ghost use Rattle.layout.specs.Table.{allFit};
 ghost use Rattle.record.specs.Fields.{headerFields, fieldsOf};
-ghost use Rattle.record.specs.Kind.{isOther};
-ghost use Rattle.record.specs.Record.{kindOf, header, headerValues, fieldValues};
+ghost use Rattle.record.specs.Record.{kindOf, headerValues, fieldValues};
 ghost use Rattle.record.specs.Writable as Writable;
 
 fn fits(n: u32, width: usize) -> bool
@@ -40,45 +40,6 @@ fn all_fit(widths: [usize; 19], n: [u32; 19]) -> bool
         i += 1;
     }
     true
-}
-
-fn kind_of(r: Record) -> Kind
-    ensures { λ k. ⌜ k ≡ kindOf r ⌝ }
-{
-    match r {
-        Record::Subframe1(_) => Kind::Subframe1,
-        Record::Subframe2(_) => Kind::Subframe2,
-        Record::Subframe3(_) => Kind::Subframe3,
-        Record::Almanac(_) => Kind::Almanac,
-        Record::Utc(_) => Kind::Utc,
-        Record::Other(_) => Kind::Other,
-    }
-}
-
-fn header_of(r: Record) -> Header
-    ensures { λ h. ⌜ h ≡ header r ⌝ }
-{
-    match r {
-        Record::Subframe1(s) => s.header,
-        Record::Subframe2(s) => s.header,
-        Record::Subframe3(s) => s.header,
-        Record::Almanac(p) => p.header,
-        Record::Utc(p) => p.header,
-        Record::Other(p) => p.header,
-    }
-}
-
-// Whether a page with this data ID field and ID is neither an almanac page nor the UTC page.
-fn is_other(subframe: u32, data_id: u32, id: u32) -> bool
-    ensures { λ r. ⌜ r ≡ isOther subframe data_id id ⌝ }
-{
-    if !is_page(subframe) {
-        return false;
-    }
-    if is_almanac(subframe, data_id, id) {
-        return false;
-    }
-    !is_utc(subframe, data_id, id)
 }
 
 // Whether the subframe number and the IDs are those of the record's kind.

@@ -5,8 +5,8 @@ use native.Mathlib.Omega.{arith}
 use borrow.Author.Needs.{needs}
 use lib.Dec.{ltb}
 use lib.Pow.{pow-mono}
-use Rattle.record.proofs.taken.fits.Statement.{statement}
-use Rattle.record.proofs.taken.fits.Tie as tie
+use Rattle.record.proofs.number_11.fits.Statement.{statement}
+use Rattle.record.proofs.number_11.fits.Tie as tie
 
 returns : tie.Need-returns
 returns c =

@@ -2,8 +2,8 @@
 use mathlib.Core.Path.{sym, ap, _∙_}
 use borrow.Author.Needs.{needs}
 use Rattle.record.specs.Writable.{ofItsKind}
-use Rattle.record.proofs.taken.of_its_kind.Statement.{statement}
-use Rattle.record.proofs.taken.of_its_kind.Tie as tie
+use Rattle.record.proofs.number_11.of_its_kind.Statement.{statement}
+use Rattle.record.proofs.number_11.of_its_kind.Tie as tie
 
 returns : tie.Need-returns
 unfolding ofItsKind

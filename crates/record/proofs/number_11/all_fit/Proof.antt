@@ -9,8 +9,8 @@ use lib.Dec.{ltb}
 use lib.ListN.{getD}
 use Rattle.bits.specs.Tests.{everyBelow-true, everyBelow-false}
 use Rattle.layout.specs.Table.{allFit}
-use Rattle.record.proofs.taken.all_fit.Statement.{statement}
-use Rattle.record.proofs.taken.all_fit.Tie as tie
+use Rattle.record.proofs.number_11.all_fit.Statement.{statement}
+use Rattle.record.proofs.number_11.all_fit.Tie as tie
 
 abbrev Inv-loop : tie.InvT-loop
 Inv-loop widths n i₀ i = (i ≤ 19) × ((j : ℕ) → j < i → ltb (getD n j 0) (2 ^ getD widths j 0) ≡ true)
@@ -21,18 +21,6 @@ abbrev μ-loop : tie.MeasureT-loop
 loop-holds : tie.Need-loop-holds Inv-loop μ-loop
 loop-holds c = (omega arith, below-none _)
 
-mul-fits : tie.Need-mul-fits Inv-loop μ-loop
-mul-fits c = omega arith
-
-array-read-fits : tie.Need-array-read-fits Inv-loop μ-loop
-array-read-fits c = omega arith
-
-mul-fits-2 : tie.Need-mul-fits-2 Inv-loop μ-loop
-mul-fits-2 c = omega arith
-
-array-read-fits-2 : tie.Need-array-read-fits-2 Inv-loop μ-loop
-array-read-fits-2 c = omega arith
-
 fits-requires : tie.Need-fits-requires Inv-loop μ-loop
 fits-requires c κs = c .before .before .pre _
 
@@ -41,12 +29,6 @@ unfolding allFit
 returns c =
     let at = c .before .before .before in
     sym (everyBelow-false 19 _ (at .loop .i) (omega arith) (sym (c .before .fits2 .ensures) ∙ not-true _ (c .if1 .taken)))
-
-add-i : tie.Need-add-i Inv-loop μ-loop
-add-i c = omega arith
-
-loop-less : tie.Need-loop-less Inv-loop μ-loop
-loop-less c = omega arith
 
 loop-again : tie.Need-loop-again Inv-loop μ-loop
 loop-again c =
@@ -60,17 +42,4 @@ returns-2 c = sym (everyBelow-true 19 _ (λ j h. c .before .loop .inv .1 j (omeg
 pub all-fit-spec : {M : Type 1} → statement M
 all-fit-spec =
     tie.close
-    (tie.spec
-    Inv-loop
-    μ-loop
-    loop-holds
-    mul-fits
-    array-read-fits
-    mul-fits-2
-    array-read-fits-2
-    fits-requires
-    returns
-    add-i
-    loop-less
-    loop-again
-    returns-2)
+    (tie.spec Inv-loop μ-loop loop-holds (λ c. omega arith) (λ c. omega arith) (λ c. omega arith) (λ c. omega arith) fits-requires returns (λ c. omega arith) (λ c. omega arith) loop-again returns-2)

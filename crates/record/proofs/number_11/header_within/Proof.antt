@@ -9,12 +9,12 @@ use Rattle.layout.specs.Tables.{widths-most, fit-within}
 use Rattle.record.specs.Fields.{headerFields}
 use Rattle.record.specs.Record.{headerValues}
 use Rattle.record.specs.Sound.{header-sound}
-use Rattle.record.proofs.taken.header_within.Statement.{statement}
-use Rattle.record.proofs.taken.header_within.Tie as tie
+use Rattle.record.proofs.number_11.header_within.Statement.{statement}
+use Rattle.record.proofs.number_11.header_within.Tie as tie
 
 all-fit-requires : tie.Need-all-fit-requires
 all-fit-requires c κs =
-    subst (λ (ws : List ℕ). (i : ℕ) → getD ws i 0 ≤ 32) (sym (c .before .header-widths .ensures)) (widths-most 19 headerFields (header-sound .proper-widths))
+    subst (λ (ws : List ℕ). (i : ℕ) → getD ws i 0 ≤ 32) (sym (c .before .header-widths .ensures)) (widths-most 19 headerFields (header-sound .widths-right))
 
 returns : tie.Need-returns
 returns c =

@@ -4,8 +4,8 @@ use mathlib.Core.Bool.{true, false, not}
 use borrow.Author.Needs.{needs}
 use borrow.Author.Tests.{not-true, not-false}
 use Rattle.record.specs.Kind.{isPage, isAlmanac, isUtc, isOther}
-use Rattle.record.proofs.taken.is_other.Statement.{statement}
-use Rattle.record.proofs.taken.is_other.Tie as tie
+use Rattle.record.proofs.kind.is_other.Statement.{statement}
+use Rattle.record.proofs.kind.is_other.Tie as tie
 
 page : (c : tie.Else1) → isPage (c .before .before .args .subframe) ≡ true
 page c = sym (c .before .is-page .ensures) ∙ not-false _ (c .if1 .left)

@@ -10,8 +10,8 @@ use Rattle.record.specs.Fields.{fieldsOf}
 use Rattle.record.specs.Record.{kindOf, fieldValues}
 use Rattle.record.specs.Sound.{fields-sound}
 use Rattle.record.specs.declared.kind.Kind.{Kind}
-use Rattle.record.proofs.taken.fields_within.Statement.{statement}
-use Rattle.record.proofs.taken.fields_within.Tie as tie
+use Rattle.record.proofs.number_11.fields_within.Statement.{statement}
+use Rattle.record.proofs.number_11.fields_within.Tie as tie
 
 table : (c : tie.After-widths) → c .widths .result ≡ widths 19 (fieldsOf (kindOf (c .before .before .args .r)))
 table c = c .widths .ensures ∙ ap (λ (k : Kind). widths 19 (fieldsOf k)) (c .before .kind-of .ensures)
@@ -19,7 +19,7 @@ table c = c .widths .ensures ∙ ap (λ (k : Kind). widths 19 (fieldsOf k)) (c .
 all-fit-requires : tie.Need-all-fit-requires
 all-fit-requires c κs =
     let k = kindOf (c .before .before .before .args .r) in
-    subst (λ (ws : List ℕ). (i : ℕ) → getD ws i 0 ≤ 32) (sym (table (c .before))) (widths-most 19 (fieldsOf k) (fields-sound k .proper-widths))
+    subst (λ (ws : List ℕ). (i : ℕ) → getD ws i 0 ≤ 32) (sym (table (c .before))) (widths-most 19 (fieldsOf k) (fields-sound k .widths-right))
 
 returns : tie.Need-returns
 returns c =

@@ -2,8 +2,8 @@
 use mathlib.Core.Path.{sym, ap}
 use borrow.Author.Needs.{needs}
 use Rattle.record.specs.Record.{header}
-use Rattle.record.proofs.taken.header_of.Statement.{statement}
-use Rattle.record.proofs.taken.header_of.Tie as tie
+use Rattle.record.proofs.record.header_of.Statement.{statement}
+use Rattle.record.proofs.record.header_of.Tie as tie
 
 returns : tie.Need-returns
 returns c = sym (ap header (c .before .before .r .given .1))

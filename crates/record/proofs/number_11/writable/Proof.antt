@@ -11,8 +11,8 @@ use Rattle.record.specs.Fields.{headerFields, fieldsOf}
 use Rattle.record.specs.Record.{kindOf, header, headerValues, fieldValues}
 use Rattle.record.specs.Writable.{withinFields, writable}
 use Rattle.record.specs.declared.record.Header.{Header}
-use Rattle.record.proofs.taken.writable.Statement.{statement}
-use Rattle.record.proofs.taken.writable.Tie as tie
+use Rattle.record.proofs.number_11.writable.Statement.{statement}
+use Rattle.record.proofs.number_11.writable.Tie as tie
 
 header-is : (c : tie.After-header-within) → c .header-within .result ≡ allWithin headerFields (headerValues (header (c .before .before .args .r)))
 header-is c = c .header-within .ensures ∙ ap (λ (h : Header). allWithin headerFields (headerValues h)) (c .before .header-of .ensures)

@@ -1,2 +1,0 @@
--- Laws that the proofs of this folder share.
-pub mod Machine
