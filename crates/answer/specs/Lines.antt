@@ -42,16 +42,10 @@ module _ {A : Type 0} where
   line-zero true n d below a h f e = absurd (h e)
   line-zero false n d below a h f e = f e
 
-  -- a value given where the checks accept: the checks' number and detail, and accepted exactly where they accept, with that value
-  pub when-number : (x : Answer (Unit {0})) (a : A) → number (whenAccepted x a) ≡ number x
-  unfolding number whenAccepted
-  when-number (accepted t) a = refl
-  when-number (refused n d) a = refl
-
-  pub when-detail : (x : Answer (Unit {0})) (a : A) → detail (whenAccepted x a) ≡ detail x
-  unfolding detail whenAccepted
-  when-detail (accepted t) a = refl
-  when-detail (refused n d) a = refl
+  -- a value given where the checks accept: a refusal stays as it is, and what is accepted is that value, accepted by the checks
+  pub when-refused : (n d : ℕ) (a : A) → whenAccepted (refused n d) a ≡ refused n d
+  unfolding whenAccepted
+  when-refused n d a = refl
 
   pub when-accepts : (x : Answer (Unit {0})) (a c : A) → whenAccepted x a ≡ accepted c → (x ≡ accepted tt) × (c ≡ a)
   unfolding whenAccepted

@@ -7,8 +7,8 @@ use native.Mathlib.Omega.{arith}
 use Rattle.bits.specs.Bits.{bitsAt}
 use Rattle.layout.specs.Field.{readField}
 use Rattle.layout.specs.Layout.{decode}
-use Rattle.answer.specs.Answer.{Answer, accepted, refused, number, detail, whenAccepted}
-use Rattle.answer.specs.Lines.{refused-not, accepted-injective, when-number, when-detail, when-accepts, refusal-injective}
+use Rattle.answer.specs.Answer.{Answer, accepted, refused, whenAccepted}
+use Rattle.answer.specs.Lines.{refused-not, accepted-injective, when-refused, when-accepts, refusal-injective}
 use Rattle.block.specs.Block.{Block, count, subframeNumber, source}
 use Rattle.block.specs.Check.{blockCheck}
 use Rattle.block.specs.Compare.{Accepted}
@@ -31,15 +31,6 @@ readingAnswer-injective (R.Refused r) (R.Accepted q) e = absurd (refused-not (r 
 readingAnswer-injective (R.Refused r) (R.Refused q) e = ap R.Refused (refusal-injective r q e)
 
 module _ (s : List ℕ) (p : ℕ) where
-  -- the number and the detail are the block check's
-  pub reading-number : number (reading s p) ≡ number (blockCheck s p)
-  unfolding reading
-  reading-number = when-number (blockCheck s p) (recordOf (source (bitsAt s p)))
-
-  pub reading-detail : detail (reading s p) ≡ detail (blockCheck s p)
-  unfolding reading
-  reading-detail = when-detail (blockCheck s p) (recordOf (source (bitsAt s p)))
-
   -- an accepted block reads as the record of its source bits
   pub reads : Accepted s p → reading s p ≡ accepted (recordOf (source (bitsAt s p)))
   unfolding reading whenAccepted
@@ -47,8 +38,9 @@ module _ (s : List ℕ) (p : ℕ) where
 
   -- what the block check refuses is refused with the same number and detail
   pub reads-refusal : (n d : ℕ) → blockCheck s p ≡ refused n d → reading s p ≡ refused n d
-  unfolding reading whenAccepted
-  reads-refusal n d h = ap (λ (x : Answer (Unit {0})). whenAccepted x (recordOf (source (bitsAt s p)))) h
+  unfolding reading
+  reads-refusal n d h =
+      ap (λ (x : Answer (Unit {0})). whenAccepted x (recordOf (source (bitsAt s p)))) h ∙ when-refused n d (recordOf (source (bitsAt s p)))
 
   -- and only an accepted block is read
   pub read-accepted : (r : Record) → reading s p ≡ accepted r → Accepted s p × (r ≡ recordOf (source (bitsAt s p)))
