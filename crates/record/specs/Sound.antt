@@ -1,5 +1,5 @@
 -- Laws. The fields of every kind fill words 3 to 10, and the tables of the code hold them.
-use mathlib.Core.Path.{_≡_, refl, sym, ap, subst, _∙_}
+use mathlib.Core.Path.{_≡_, refl, sym, ap, ap₂, subst, _∙_}
 use mathlib.Core.List.{List}
 use mathlib.Core.Bool.{Bool, true, _&&_}
 use Prim.Native.Nat.{ℕ, _+_, _≤_}
@@ -8,10 +8,10 @@ use borrow.Author.Tests.{eqb-true, leb-true}
 use lib.Dec.{eqb, leb}
 use lib.ListN.{length, getD}
 use Rattle.bits.specs.Tests.{and-true}
-use Rattle.layout.specs.Layout.{Layout, size, decode}
+use Rattle.layout.specs.Layout.{Layout, size, Values, decode, allWithin}
 use Rattle.layout.specs.Layouts.{widths1to32}
-use Rattle.layout.specs.Table.{widths, valuesFrom, offset, numbersAt}
-use Rattle.layout.specs.Tables.{offset-size, widths-most, table-values}
+use Rattle.layout.specs.Table.{widths, numbers, valuesFrom, offset, numbersAt, allFit}
+use Rattle.layout.specs.Tables.{offset-size, widths-most, table-values, fit-within}
 use Rattle.record.specs.Fields.{headerFields, fieldsOf}
 use Rattle.record.specs.declared.kind.Kind.{Kind}
 use Rattle.record.specs.declared.kind.Kind.the-variants.{Subframe1, Subframe2, Subframe3, Almanac, Utc, Other}
@@ -51,14 +51,18 @@ fields-sound k = sound 190 (fieldsOf k) (tested k)
 
 -- ---- the table of 19 widths of such fields
 
-module _ (n : ℕ) (l : Layout) (h : Sound n l) where
-  -- read from index `at` on, it stays within a bound that holds at + n, and each width is at most 32
-  pub table-room : (at bound : ℕ) → at + n ≤ bound → (ws : List ℕ) → ws ≡ widths 19 l → (at + offset ws 19 ≤ bound) × ((i : ℕ) → getD ws i 0 ≤ 32)
-  table-room at bound r ws e =
-      subst (λ (x : List ℕ). (at + offset x 19 ≤ bound) × ((i : ℕ) → getD x i 0 ≤ 32)) (sym e)
-      (omega (arith, offset-size 19 l (h .few), h .bits), widths-most 19 l (h .widths-right))
+module _ (n : ℕ) (l : Layout) (h : Sound n l) (ws : List ℕ) (e : ws ≡ widths 19 l) where
+  pub table-most : (i : ℕ) → getD ws i 0 ≤ 32
+  table-most = subst (λ (x : List ℕ). (i : ℕ) → getD x i 0 ≤ 32) (sym e) (widths-most 19 l (h .widths-right))
 
-  -- the numbers that stand in it are the values
-  pub table-decode : (at : ℕ) (bits ws ns : List ℕ) → ws ≡ widths 19 l → ns ≡ numbersAt 19 ws at bits → valuesFrom l 0 ns ≡ decode l at bits
-  table-decode at bits ws ns e d =
+  -- read from index `at` on, it stays within a bound that holds at + n
+  pub table-room : (at bound : ℕ) → at + n ≤ bound → at + offset ws 19 ≤ bound
+  table-room at bound r = subst (λ (x : List ℕ). at + offset x 19 ≤ bound) (sym e) (omega (arith, offset-size 19 l (h .few), h .bits))
+
+  -- the numbers that stand in it are the values, and they fit exactly where the values are within their fields
+  pub table-decode : (at : ℕ) (bits ns : List ℕ) → ns ≡ numbersAt 19 ws at bits → valuesFrom l 0 ns ≡ decode l at bits
+  table-decode at bits ns d =
       ap (valuesFrom l 0) (d ∙ ap (λ (x : List ℕ). numbersAt 19 x at bits) e) ∙ table-values 19 l (h .few) at bits
+
+  pub table-within : (v : Values l) (ns : List ℕ) → ns ≡ numbers 19 l v → allFit 19 ws ns ≡ allWithin l v
+  table-within v ns d = ap₂ (allFit 19) e d ∙ fit-within 19 l v (h .few)

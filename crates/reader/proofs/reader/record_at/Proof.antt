@@ -11,7 +11,7 @@ use Rattle.record.specs.Kind.{kindFor}
 use Rattle.record.specs.Fields.{fieldsOf}
 use Rattle.record.specs.Record.{recordWith}
 use Rattle.record.specs.Source.{headerIn, dataIdIn, idIn, kindIn, recordOf}
-use Rattle.record.specs.Sound.{fields-sound, table-room, table-decode}
+use Rattle.record.specs.Sound.{fields-sound, table-most, table-room, table-decode}
 use Rattle.record.specs.declared.kind.Kind.{Kind}
 use Rattle.record.specs.declared.record.Header.{Header}
 use Rattle.reader.proofs.reader.record_at.Statement.{statement}
@@ -19,8 +19,10 @@ use Rattle.reader.proofs.reader.record_at.Tie as tie
 
 numbers-at-requires : tie.Need-numbers-at-requires
 numbers-at-requires c κs =
-    let k = c .before .kind-for .result in
-    table-room 190 (fieldsOf k) (fields-sound k) _ 240 (omega arith) (c .widths .result) (c .widths .ensures)
+    let k = c .before .kind-for .result in (
+      table-room 190 (fieldsOf k) (fields-sound k) (c .widths .result) (c .widths .ensures) _ 240 (omega arith),
+      table-most 190 (fieldsOf k) (fields-sound k) (c .widths .result) (c .widths .ensures),
+    )
 
 -- the record that is made of the kind, the header and the fields' values is the record of the source bits
 made : (s : List ℕ) (k : Kind) (h : Header) (d i : ℕ) → k ≡ kindFor (h .subframe) d i → h ≡ headerIn s → d ≡ dataIdIn s → i ≡ idIn s
@@ -37,7 +39,7 @@ returns c =
     let s = source (bitsAt (a .log .now) (a .p)) in
     let k = c .before .before .before .kind-for .result in
     let h = c .before .before .before .before .before .before .header-at .result in
-    let values = table-decode 190 (fieldsOf k) (fields-sound k) 48 s (c .before .before .widths .result) (c .before .numbers-at .result) (c .before .before .widths .ensures) (c .before .numbers-at .ensures) in
+    let values = table-decode 190 (fieldsOf k) (fields-sound k) (c .before .before .widths .result) (c .before .before .widths .ensures) 48 s (c .before .numbers-at .result) (c .before .numbers-at .ensures) in
     c .record-from .ensures
     ∙ ap (recordWith k h) values
     ∙ made s k h (c .before .before .before .before .before .number-at .result) (c .before .before .before .before .number-at2 .result)
