@@ -155,4 +155,5 @@ def main(stdin, stdout, *recordings):
     open(stdout, 'w').writelines(lines)
     print(collections.Counter(text.split()[1] for text in lines))
 
-main(*sys.argv[1:])
+if __name__ == '__main__':
+    main(*sys.argv[1:])

@@ -2,6 +2,8 @@
 use mathlib.Core.Bool.{Bool, true, false}
 use Prim.Native.Nat.{ℕ}
 use Rattle.answer.specs.declared.Refusal.{Refusal}
+use Rattle.answer.specs.declared.Checked.{Checked}
+use Rattle.answer.specs.declared.Checked.the-variants.{Accepted, Refused}
 
 -- a value, or a refusal's number and detail
 pub data Answer (A : Type 0) : Type 0 where
@@ -34,3 +36,8 @@ whenAccepted (refused n d) a = refused n d
 -- what the code's refusal says
 abbrev pub refusalAnswer : {A : Type 0} → Refusal → Answer A
 refusalAnswer r = refused (r .number) (r .detail)
+
+-- what the code's answer says, where a call gives no value
+unfoldable pub checkedAnswer : Checked → Answer (Unit {0})
+checkedAnswer Accepted = accepted tt
+checkedAnswer (Refused r) = refusalAnswer r

@@ -3,8 +3,10 @@ use mathlib.Core.Path.{_≡_, refl, sym, ap, ap₂}
 use mathlib.Core.Bool.{Bool, true, false, false≢true}
 use mathlib.Core.Logic.{_↔_}
 use Prim.Native.Nat.{ℕ}
-use Rattle.answer.specs.Answer.{Answer, accepted, refused, number, detail, isAccepted, refuseIf, whenAccepted, refusalAnswer}
+use Rattle.answer.specs.Answer.{Answer, accepted, refused, number, detail, isAccepted, refuseIf, whenAccepted, refusalAnswer, checkedAnswer}
 use Rattle.answer.specs.declared.Refusal.{Refusal}
+use Rattle.answer.specs.declared.Checked.{Checked}
+use Rattle.answer.specs.declared.Checked.the-variants.{Accepted, Refused}
 
 module _ {A : Type 0} where
   pub refused-not : (n d : ℕ) (a : A) → refused n d ≡ accepted a → ⊥
@@ -58,3 +60,11 @@ module _ {A : Type 0} where
       let n : r .number ≡ q .number = ap number e in
       let d : r .detail ≡ q .detail = ap detail e in
       ap₂ (λ (x y : ℕ). record { number = x; detail = y }) n d
+
+-- the code's answer is determined by what it says
+pub checkedAnswer-injective : (x y : Checked) → checkedAnswer x ≡ checkedAnswer y → x ≡ y
+unfolding checkedAnswer
+checkedAnswer-injective Accepted Accepted e = refl
+checkedAnswer-injective Accepted (Refused q) e = absurd (refused-not (q .number) (q .detail) tt (sym e))
+checkedAnswer-injective (Refused r) Accepted e = absurd (refused-not (r .number) (r .detail) tt e)
+checkedAnswer-injective (Refused r) (Refused q) e = ap Refused (refusal-injective r q e)

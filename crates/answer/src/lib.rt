@@ -1,7 +1,21 @@
-// What a call that may refuse answers: the refusal that all such calls share.
+// What a call that may refuse answers: the refusal that all such calls share, and the answer of those that give no value.
+ghost use mathlib.Core.Path.{_≡_};
+ghost use Rattle.answer.specs.Answer as Answer;
 
 // A refusal: its number in document 01's table, and the detail that the table names for it.
 pub struct Refusal {
     pub number: u8,
     pub detail: usize,
+}
+
+// The answer of a call that gives no value.
+pub enum Checked {
+    Accepted,
+    Refused(Refusal),
+}
+
+pub fn refused(number: u8, detail: usize) -> Checked
+    ensures { λ r. ⌜ Answer.checkedAnswer r ≡ Answer.refused number detail ⌝ }
+{
+    Checked::Refused(Refusal { number, detail })
 }

@@ -1,11 +1,11 @@
 -- Laws. Bits as one number and back.
 use mathlib.Core.Path.{_≡_, refl, sym, ap, ap₂, _∙_}
 use Prim.Native.Nat.{ℕ, zero, suc, _+_, _-_, _*_, _/_, _^_, _%_, _<_, _≤_}
-use native.Mathlib.Nat.{pow-suc}
+use native.Mathlib.Nat.{pow-suc, mod-eq-of-lt}
 use native.Mathlib.Numerals.{add-one}
 use native.Mathlib.Omega.{arith}
 use lib.Bits.{bitXor, xor-block}
-use lib.Pow.{shr-shr, pow-mono}
+use lib.Pow.{shr-shr, pow-mono, mod-pow-add}
 use Rattle.bits.specs.Bits.{_⊕_, Bits, Same, xor, pack, unpack}
 use Rattle.bits.specs.Tests.{below-suc}
 use Rattle.bits.specs.Xor.{xor-bit}
@@ -22,6 +22,11 @@ pack-more n u = ap (λ (m : ℕ). pack m u) (add-one n)
 
 pub pack-room : (m n : ℕ) (u : Bits) → n < m → pack n u * 2 + 1 < 2 ^ m
 pack-room m n u h = let l : 2 ^ suc n ≤ 2 ^ m = pow-mono h in omega (arith, pack-lt n u, pow-suc 2 n)
+
+-- the last two bits of a run
+pub pack-last : (n : ℕ) (u : Bits) → (pack (suc (suc n)) u / 2 % 2 ≡ u n % 2) × (pack (suc (suc n)) u % 2 ≡ u (suc n) % 2)
+unfolding pack
+pack-last n u = (omega arith, omega arith)
 
 pub pack-same : (n : ℕ) (u v : Bits) → Same n u v → pack n u ≡ pack n v
 unfolding pack
@@ -67,12 +72,21 @@ unpack-pack (suc n) u j h =
     half : (x b : ℕ) → b < 2 → (x * 2 + b) / 2 ≡ x
     half x b l = omega arith
 
-pub pack-unpack : (n x : ℕ) → x < 2 ^ n → pack n (unpack n x) ≡ x
+-- the n lowest digits of a number
+pub pack-lowest : (n x : ℕ) → pack n (unpack n x) ≡ x % 2 ^ n
 unfolding pack
-pack-unpack zero x h = omega arith
-pack-unpack (suc n) x h =
+pack-lowest zero x = omega arith
+pack-lowest (suc n) x =
+    let next : n + 1 ≡ suc n = add-one n in
     ap₂ (λ (y z : ℕ). y * 2 + z % 2)
-    (pack-same n (unpack (suc n) x) (unpack n (x / 2)) (λ j l. ap (λ (y : ℕ). y % 2) (unpack-half n x j l))
-    ∙ pack-unpack n (x / 2) (omega (arith, pow-suc 2 n)))
+    (pack-same n (unpack (suc n) x) (unpack n (x / 2)) (λ j l. ap (λ (y : ℕ). y % 2) (unpack-half n x j l)) ∙ pack-lowest n (x / 2))
     (unpack-last n x)
-    ∙ omega arith
+    ∙ even (x / 2 % 2 ^ n) x
+    ∙ sym (mod-pow-add x n 1)
+    ∙ ap (λ (m : ℕ). x % 2 ^ m) next
+  where
+    even : (y z : ℕ) → y * 2 + z % 2 % 2 ≡ y * 2 + z % 2
+    even y z = omega arith
+
+pub pack-unpack : (n x : ℕ) → x < 2 ^ n → pack n (unpack n x) ≡ x
+pack-unpack n x h = pack-lowest n x ∙ mod-eq-of-lt h

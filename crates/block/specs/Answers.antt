@@ -1,23 +1,14 @@
--- Laws. The code's answer is determined by what it says; acceptance by the number alone, and as a bool.
-use mathlib.Core.Path.{_≡_, refl, sym, ap}
+-- Laws. Acceptance by the number alone, and as a bool.
+use mathlib.Core.Path.{_≡_, refl, ap}
 use mathlib.Core.Bool.{true, false}
 use mathlib.Core.List.{List}
 use mathlib.Core.Logic.{_↔_}
 use Prim.Native.Nat.{ℕ}
 use native.Mathlib.Omega.{arith}
 use Rattle.answer.specs.Answer.{number, isAccepted}
-use Rattle.answer.specs.Lines.{refused-not, line-zero, isAccepted-true, isAccepted-false, refusal-injective}
-use Rattle.block.specs.Check.{checkedAnswer, fieldCheck, bitCheck, blockCheck, acceptedAt}
+use Rattle.answer.specs.Lines.{line-zero, isAccepted-true, isAccepted-false}
+use Rattle.block.specs.Check.{fieldCheck, bitCheck, blockCheck, acceptedAt}
 use Rattle.block.specs.Compare.{Accepted}
-use Rattle.block.specs.declared.check.Checked.{Checked}
-use Rattle.block.specs.declared.check.Checked.the-variants as Variant
-
-pub checkedAnswer-injective : (x y : Checked) → checkedAnswer x ≡ checkedAnswer y → x ≡ y
-unfolding checkedAnswer
-checkedAnswer-injective Variant.Accepted Variant.Accepted e = refl
-checkedAnswer-injective Variant.Accepted (Variant.Refused q) e = absurd (refused-not (q .number) (q .detail) tt (sym e))
-checkedAnswer-injective (Variant.Refused r) Variant.Accepted e = absurd (refused-not (r .number) (r .detail) tt e)
-checkedAnswer-injective (Variant.Refused r) (Variant.Refused q) e = ap Variant.Refused (refusal-injective r q e)
 
 -- the number alone tells whether a block is accepted
 pub number-zero : (s : List ℕ) (p : ℕ) → (number (blockCheck s p) ≡ 0) ↔ Accepted s p

@@ -7,15 +7,8 @@ use lib.ListN.{length}
 use Rattle.bits.specs.Bits.{bitsAt}
 use Rattle.bits.specs.First.{firstFrom}
 use Rattle.parity.specs.Word.{passes}
-use Rattle.answer.specs.Answer.{Answer, accepted, refuseIf, isAccepted, refusalAnswer}
+use Rattle.answer.specs.Answer.{Answer, accepted, refuseIf, isAccepted}
 use Rattle.block.specs.Block.{Block, window, preamble, count, subframeNumber, endsAlike}
-use Rattle.block.specs.declared.check.Checked.{Checked}
-use Rattle.block.specs.declared.check.Checked.the-variants.{Accepted, Refused}
-
--- what the code's answer says
-unfoldable pub checkedAnswer : Checked → Answer (Unit {0})
-checkedAnswer Accepted = accepted tt
-checkedAnswer (Refused r) = refusalAnswer r
 
 -- the index in the block of its first byte above 1, or 302
 unfoldable pub firstAbove : Block → ℕ

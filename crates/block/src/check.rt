@@ -1,24 +1,13 @@
 // The block check: accepted, or refused by the numbers 1 to 9 in the order of document 01's table.
-use answer::Refusal;
+use answer::Checked;
+use answer::refused;
 ghost use mathlib.Core.Path.{_≡_};
 ghost use Prim.Native.Nat.{_+_, _≤_};
 ghost use lib.ListN.{length};
 ghost use Rattle.bits.specs.Bits.{bitsAt};
-ghost use Rattle.answer.specs.Answer as Answer;
+ghost use Rattle.answer.specs.Answer.{checkedAnswer};
 ghost use Rattle.block.specs.Block.{endsAlike};
-ghost use Rattle.block.specs.Check.{checkedAnswer, firstAbove, firstBroken, fieldCheck, bitCheck, blockCheck};
-
-// The answer of the block check.
-pub enum Checked {
-    Accepted,
-    Refused(Refusal),
-}
-
-fn refused(number: u8, detail: usize) -> Checked
-    ensures { λ r. ⌜ checkedAnswer r ≡ Answer.refused number detail ⌝ }
-{
-    Checked::Refused(Refusal { number, detail })
-}
+ghost use Rattle.block.specs.Check.{firstAbove, firstBroken, fieldCheck, bitCheck, blockCheck};
 
 // The index in the block at p of its first byte above 1, or 302.
 fn first_above(log: &[u8], p: usize) -> usize

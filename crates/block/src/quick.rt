@@ -1,6 +1,6 @@
 // Whether the block check accepts, answered fast: at most places the preamble or the start pair already excludes it.
-use crate::check::Checked;
 use crate::check::check_block;
+use answer::Checked;
 ghost use mathlib.Core.Path.{_≡_};
 ghost use Prim.Native.Nat.{_+_, _<_, _≤_};
 ghost use lib.ListN.{length};

@@ -1,7 +1,7 @@
 // Checks blocks in logs given as text on standard input, of which it reads at most 65,536 bytes. A line that begins with `#` is copied.
 // Any other line is `LENGTH PLACE DIGITS`: the log is the digits' values and then zeros, LENGTH bytes in all, and at most 65,537.
 // The answer is a line of three fields parted by tabs: number and detail of the check at PLACE, and `yes` or `no` from `accepted_at`.
-use block::Checked;
+use answer::Checked;
 use libc::STDIN_FILENO;
 use libc::STDOUT_FILENO;
 ghost use mathlib.Core.Path.{_≡_};

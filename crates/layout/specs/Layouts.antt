@@ -1,14 +1,14 @@
 -- Laws. Any run of fields: both round trips, and that what is read is within its fields.
 use mathlib.Core.Path.{_≡_, refl, sym, ap, ap₂, _∙_}
-use mathlib.Core.Bool.{Bool, true, _&&_}
+use mathlib.Core.Bool.{Bool, true, false, cond, _&&_}
 use mathlib.Core.List.{List, [], _∷_}
 use Prim.Native.Nat.{ℕ, _+_, _-_, _%_, _<_, _≤_}
 use native.Mathlib.Decide.{decLt}
 use native.Mathlib.Omega.{arith}
 use borrow.Author.Tests.{leb-true, lt-ltb, le-ltb}
-use lib.Dec.{leb}
+use lib.Dec.{leb, ltb}
 use lib.ListN.{getD}
-use Rattle.bits.specs.Bits.{bitsAt}
+use Rattle.bits.specs.Bits.{bitsAt, unpack}
 use Rattle.bits.specs.Tests.{and-true}
 use Rattle.layout.specs.Field.{Field, width, fieldBits, within}
 use Rattle.layout.specs.Layout.{Layout, size, Values, decode, encode, allWithin}
@@ -37,13 +37,22 @@ each-within [] v h = tt
 each-within (f ∷ l) v h = let t = and-true (within f (v .0)) (allWithin l (v .1)) h in (t .0, each-within l (v .1) (t .1))
 
 -- the first field's bits come first, then the others'
-encode-head : (f : Field) (l : Layout) (v : Values (f ∷ l)) (j : ℕ) → j < width f → encode (f ∷ l) v j ≡ fieldBits f (v .0) j
+pub encode-head : (f : Field) (l : Layout) (v : Values (f ∷ l)) (j : ℕ) → j < width f → encode (f ∷ l) v j ≡ fieldBits f (v .0) j
 unfolding encode
 encode-head f l v j h = rw (lt-ltb j (width f) h)
 
-encode-tail : (f : Field) (l : Layout) (v : Values (f ∷ l)) (j : ℕ) → encode (f ∷ l) v (width f + j) ≡ encode l (v .1) j
+pub encode-tail : (f : Field) (l : Layout) (v : Values (f ∷ l)) (j : ℕ) → encode (f ∷ l) v (width f + j) ≡ encode l (v .1) j
 unfolding encode
 encode-tail f l v j = rw (le-ltb (width f + j) (width f) (omega arith)) (ap (encode l (v .1)) (omega arith))
+
+pub encode-lt : (l : Layout) (v : Values l) (j : ℕ) → encode l v j < 2
+unfolding encode fieldBits unpack
+encode-lt [] v j = omega arith
+encode-lt (f ∷ l) v j = go (ltb j (width f)) (encode-lt l (v .1) (j - width f))
+  where
+    go : (t : Bool) → encode l (v .1) (j - width f) < 2 → cond t (fieldBits f (v .0) j) (encode l (v .1) (j - width f)) < 2
+    go true rest = omega arith
+    go false rest = rest
 
 -- values within their fields are read from a list that holds their bits
 pub decode-encode : (l : Layout) (v : Values l) (at : ℕ) (bits : List ℕ) → allWithin l v ≡ true

@@ -4,6 +4,7 @@ use mathlib.Core.Bool.{true, _&&_}
 use mathlib.Core.List.{List, [], _∷_}
 use Prim.Native.Nat.{ℕ, zero, suc, _+_, _<_, _≤_}
 use native.Mathlib.Decide.{decLt}
+use native.Mathlib.Nat.{zero-add}
 use native.Mathlib.Numerals.{add-one}
 use native.Mathlib.Omega.{arith}
 use lib.ListN.{length, getD}
@@ -11,11 +12,11 @@ use Rattle.bits.specs.Bits.{bitsAt, pack}
 use Rattle.bits.specs.Every.{everyBelow}
 use Rattle.bits.specs.Tests.{everyBelow-first}
 use Rattle.bits.specs.Tabulated.{tabulate-at}
-use Rattle.layout.specs.Field.{width, valueOf, readField}
+use Rattle.layout.specs.Field.{width, valueOf, readField, fieldBits}
 use Rattle.layout.specs.Fields.{number-within}
-use Rattle.layout.specs.Layouts.{widths1to32, widths1to32-first}
-use Rattle.layout.specs.Layout.{Layout, size, Values, decode, allWithin}
-use Rattle.layout.specs.Table.{widths, numbers, valuesFrom, offset, numbersAt, allFit}
+use Rattle.layout.specs.Layouts.{widths1to32, widths1to32-first, encode-head, encode-tail}
+use Rattle.layout.specs.Layout.{Layout, size, Values, decode, encode, allWithin}
+use Rattle.layout.specs.Table.{widths, numbers, valuesFrom, offset, numbersAt, StandIn, allFit}
 
 -- ---- the widths
 
@@ -89,6 +90,23 @@ unfolding numbersAt offset
 table-values n l h at bits =
     values-at (widths n l) at bits (numbersAt n (widths n l) at bits) n (λ k m. tabulate-at n _ k m) l 0 (omega arith) (holds n l h)
     ∙ ap (λ (k : ℕ). decode l k bits) (omega arith)
+
+-- ---- the numbers of a run's values stand in the run's bits
+
+no-fields : (n i : ℕ) → getD (widths n []) i 0 ≡ 0
+unfolding widths
+no-fields zero i = refl
+no-fields (suc n) zero = refl
+no-fields (suc n) (suc i) = no-fields n i
+
+pub stand-encode : (n : ℕ) (l : Layout) (v : Values l) → length l ≤ n → StandIn n (widths n l) (numbers n l v) (encode l v)
+unfolding widths numbers offset fieldBits
+stand-encode zero l v h i k j m = absurd (omega arith)
+stand-encode (suc n) [] v h i k j m = absurd (omega (arith, no-fields (suc n) i))
+stand-encode (suc n) (f ∷ l) v h zero k j m = ap (encode (f ∷ l) v) (zero-add j) ∙ encode-head f l v j m
+stand-encode (suc n) (f ∷ l) v h (suc i) k j m =
+    let at : offset (width f ∷ widths n l) (suc i) + j ≡ width f + (offset (widths n l) i + j) = omega (arith, offset-first (width f) (widths n l) i) in
+    ap (encode (f ∷ l) v) at ∙ encode-tail f l v (offset (widths n l) i + j) ∙ stand-encode n l (v .1) (omega arith) i (omega arith) j m
 
 -- each number fits its width exactly where each value is within its field
 pub fit-within : (n : ℕ) (l : Layout) (v : Values l) → length l ≤ n → allFit n (widths n l) (numbers n l v) ≡ allWithin l v

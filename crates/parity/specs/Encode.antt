@@ -3,13 +3,17 @@ use mathlib.Core.Path.{_≡_}
 use mathlib.Core.Bool.{cond}
 use Prim.Native.Nat.{ℕ, zero, suc, _-_, _<_, _≤_}
 use lib.Dec.{eqb, ltb}
-use Rattle.bits.specs.Bits.{_⊕_, Bits}
+use Rattle.bits.specs.Bits.{_⊕_, Bits, unpack}
 use Rattle.parity.specs.Table.{line}
 use Rattle.parity.specs.Word.{Window, receivedBit, sourceBit, parityBit}
 
 -- source bits 1 to 24 are s 1 to s 24
 abbrev pub AreSource : Bits → Type 0
 AreSource s = (i : ℕ) → 1 ≤ i → i ≤ 24 → s i < 2
+
+-- the source bits of a number of 24 bits, the first highest
+unfoldable pub sourceOf : ℕ → Bits
+sourceOf n i = unpack 24 n (i - 1)
 
 -- w has the pair p, q and the source bits s
 pub record Carries (p q : ℕ) (s : Bits) (w : Window) : Type 0 where
@@ -37,3 +41,7 @@ filler24 p q s a = receivedBit (encode p q (withFillers s 0 0)) 29 ⊕ a
 
 unfoldable pub filler23 : ℕ → ℕ → Bits → ℕ → ℕ → ℕ
 filler23 p q s a b = (receivedBit (encode p q (withFillers s 0 0)) 30 ⊕ b) ⊕ filler24 p q s a
+
+-- the word with those fillers
+unfoldable pub encodeEnding : ℕ → ℕ → Bits → ℕ → ℕ → Window
+encodeEnding p q s a b = encode p q (withFillers s (filler23 p q s a b) (filler24 p q s a))

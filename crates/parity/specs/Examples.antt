@@ -1,12 +1,12 @@
 -- Definitions. Document 01's board examples of words, a row each.
 use mathlib.Core.Bool.{Bool, _&&_}
 use mathlib.Core.List.{List, [], _∷_}
-use Prim.Native.Nat.{ℕ, _+_, _-_, _*_, _^_}
+use Prim.Native.Nat.{ℕ, _+_, _*_, _^_}
 use lib.Dec.{eqb}
 use lib.ListN.{getD}
-use Rattle.bits.specs.Bits.{Bits, pack, unpack}
+use Rattle.bits.specs.Bits.{pack, unpack}
 use Rattle.parity.specs.Word.{Window, receivedBit, sourceBits, passes}
-use Rattle.parity.specs.Encode.{encode, filler23, filler24}
+use Rattle.parity.specs.Encode.{sourceOf, encode, filler23, filler24}
 
 -- P and Q, the 24 source bits and the 30 received bits, each as a number, its first bit highest
 pub record Example : Type 0 where
@@ -33,10 +33,6 @@ examples =
 unfoldable pub exampleAt : ℕ → Example
 exampleAt k = getD examples k (example 0 0 0)
 
--- source bit i, from 1
-unfoldable pub sourceOf : Example → Bits
-sourceOf e i = unpack 24 (e .source) (i - 1)
-
 unfoldable pub windowOf : Example → Window
 windowOf e = unpack 32 (e .pair * 2 ^ 30 + e .received)
 
@@ -44,7 +40,7 @@ windowOf e = unpack 32 (e .pair * 2 ^ 30 + e .received)
 unfoldable pub holds : Example → Bool
 holds e =
     let w = windowOf e in
-    let s = sourceOf e in
+    let s = sourceOf (e .source) in
     passes w
     && eqb (sourceBits w) (e .source)
     && eqb (pack 32 (encode (w 0) (w 1) s)) (pack 32 w)

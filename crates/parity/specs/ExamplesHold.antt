@@ -7,8 +7,8 @@ use Rattle.bits.specs.Every.{everyBelow}
 use Rattle.bits.specs.Tests.{everyBelow-at}
 use Rattle.parity.specs.Table.{table, line}
 use Rattle.parity.specs.Word.{sourceBit, sourceBits, sourceSum, parityBit, failure, syndrome, passes}
-use Rattle.parity.specs.Encode.{dataBits, encode, withFillers, filler23, filler24}
-use Rattle.parity.specs.Examples.{examples, exampleAt, sourceOf, windowOf, holds}
+use Rattle.parity.specs.Encode.{sourceOf, dataBits, encode, withFillers, filler23, filler24}
+use Rattle.parity.specs.Examples.{examples, exampleAt, windowOf, holds}
 
 pub examples-hold : (k : ℕ) → k < length examples → T (holds (exampleAt k))
 unfolding everyBelow examples exampleAt sourceOf windowOf holds pack unpack dataBits encode withFillers filler23 filler24 table line sourceBit sourceBits sourceSum parityBit failure syndrome passes

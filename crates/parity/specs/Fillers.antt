@@ -13,10 +13,10 @@ use Rattle.bits.specs.Every.{everyBelow}
 use Rattle.bits.specs.Tests.{equal-below₂}
 use Rattle.parity.specs.Table.{table, line}
 use Rattle.parity.specs.Word.{Window, receivedBit, sourceBit, sourceSum, parityBit, passes}
-use Rattle.parity.specs.Encode.{dataBits, encode, withFillers, filler23, filler24}
+use Rattle.parity.specs.Encode.{AreSource, Carries, dataBits, encode, withFillers, filler23, filler24, encodeEnding}
 use Rattle.parity.specs.Linear.{parityBit-linear}
 use Rattle.parity.specs.Local.{parityBit-local}
-use Rattle.parity.specs.OneWord.{encode-parity, encode-only}
+use Rattle.parity.specs.OneWord.{encode-parity, encode-same, encode-passes, encode-bits, encode-carries, encode-only}
 
 -- what the fillers x and y alone contribute to the bit of line k
 share : ℕ → ℕ → ℕ → ℕ
@@ -88,6 +88,70 @@ module _ (p q : ℕ) (s : Bits) (x y : ℕ) where
 
       bit30 : encode p q (withFillers s x y) 31 ≡ encode p q (withFillers s 0 0) 31 ⊕ (x ⊕ y)
       bit30 = split 5 (lit< tt) ∙ ap (λ (z : ℕ). encode p q (withFillers s 0 0) 31 ⊕ z) (share-30 x y hx hy)
+
+-- ---- only source bits 1 to 22 count
+
+module _ (p q : ℕ) (s t : Bits) (same : (i : ℕ) → 1 ≤ i → i ≤ 22 → s i ≡ t i) where
+  with-same : (x y i : ℕ) → 1 ≤ i → i ≤ 24 → withFillers s x y i ≡ withFillers t x y i
+  unfolding withFillers
+  with-same x y i l h = go (ℕ-discrete i 23) (ℕ-discrete i 24)
+    where
+      go : Dec (i ≡ 23) → Dec (i ≡ 24) → cond (eqb i 23) x (cond (eqb i 24) y (s i)) ≡ cond (eqb i 23) x (cond (eqb i 24) y (t i))
+      go (yes e) d = rw (eq-eqb i 23 e)
+      go (no n) (yes e) = rw (ne-eqb i 23 n, eq-eqb i 24 e)
+      go (no n) (no m) = rw (ne-eqb i 23 n, ne-eqb i 24 m) (same i l (omega arith))
+
+  filled-same : (x y j : ℕ) → j < 32 → encode p q (withFillers s x y) j ≡ encode p q (withFillers t x y) j
+  filled-same x y = encode-same p q (withFillers s x y) (withFillers t x y) (with-same x y)
+
+  pub ending-same : (a b j : ℕ) → j < 32 → encodeEnding p q s a b j ≡ encodeEnding p q t a b j
+  unfolding encodeEnding filler23 filler24
+  ending-same a b j h =
+      let bit29 = filled-same 0 0 30 (lit< tt) in
+      let bit30 = filled-same 0 0 31 (lit< tt) in
+      filled-same (filler23 p q s a b) (filler24 p q s a) j h
+      ∙ (λ i. encode p q (withFillers t ((bit30 i ⊕ b) ⊕ (bit29 i ⊕ a)) (bit29 i ⊕ a)) j)
+
+-- ---- the word with the fillers of the formulas
+
+module _ (p q : ℕ) (s : Bits) (bp : p < 2) (bq : q < 2) (bs : AreSource s) (a b : ℕ) (ba : a < 2) (bb : b < 2) where
+  -- its source bits
+  ending-source-bits : Bits
+  ending-source-bits = withFillers s (filler23 p q s a b) (filler24 p q s a)
+
+  ending-lt : AreSource ending-source-bits
+  unfolding ending-source-bits withFillers filler23 filler24
+  ending-lt i l h = go (eqb i 23) (eqb i 24)
+    where
+      go : (x y : Bool) → cond x (filler23 p q s a b) (cond y (filler24 p q s a) (s i)) < 2
+      go true y = omega arith
+      go false true = omega arith
+      go false false = bs i l h
+
+  pub ending-bits : AreBits 32 (encodeEnding p q s a b)
+  unfolding encodeEnding ending-source-bits
+  ending-bits = encode-bits p q ending-source-bits bp bq ending-lt
+
+  pub ending-passes : passes (encodeEnding p q s a b) ≡ true
+  unfolding encodeEnding ending-source-bits
+  ending-passes = encode-passes p q ending-source-bits
+
+  ending-carries : Carries p q ending-source-bits (encodeEnding p q s a b)
+  unfolding encodeEnding ending-source-bits
+  ending-carries = encode-carries p q ending-source-bits bp bq ending-lt
+
+  pub ending-pair : (encodeEnding p q s a b 0 ≡ p) × (encodeEnding p q s a b 1 ≡ q)
+  ending-pair = (ending-carries .pairP, ending-carries .pairQ)
+
+  pub ending-source : (i : ℕ) → 1 ≤ i → i ≤ 22 → sourceBit (encodeEnding p q s a b) i ≡ s i
+  unfolding ending-source-bits withFillers
+  ending-source i l h =
+      ending-carries .source i l (omega arith)
+      ∙ rw (ne-eqb i 23 (λ e. omega arith), ne-eqb i 24 (λ e. omega arith))
+
+  pub ending-ends : (receivedBit (encodeEnding p q s a b) 29 ≡ a) × (receivedBit (encodeEnding p q s a b) 30 ≡ b)
+  unfolding encodeEnding filler23 filler24
+  ending-ends = fillers p q s (filler23 p q s a b) (filler24 p q s a) (omega arith) (omega arith) a b ba bb .1 (refl, refl)
 
 -- ---- the fillers of a passing word are those that its ending asks
 

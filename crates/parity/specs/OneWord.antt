@@ -27,7 +27,7 @@ by-parts A data-part parity-part j h = go (decLt j 26)
         subst A at (parity-part (j - 26) (omega arith))
 
 module _ (p q : ℕ) (s : Bits) where
-  encode-data : (j : ℕ) → j < 26 → encode p q s j ≡ dataBits p q s j
+  pub encode-data : (j : ℕ) → j < 26 → encode p q s j ≡ dataBits p q s j
   unfolding encode
   encode-data j h = rw (lt-ltb j 26 h)
 
@@ -58,6 +58,21 @@ module _ (p q : ℕ) (s : Bits) where
           ap₂ _⊕_ (ap (encode p q s) (ap suc (line-bit k h) ∙ omega arith) ∙ encode-parity k)
           (parityBit-agree (encode p q s) (dataBits p q s) encode-agree k h)
           ∙ twice (parityBit (dataBits p q s) (line k))
+
+-- only source bits 1 to 24 count
+pub encode-same : (p q : ℕ) (s t : Bits) → ((i : ℕ) → 1 ≤ i → i ≤ 24 → s i ≡ t i) → (j : ℕ) → j < 32 → encode p q s j ≡ encode p q t j
+unfolding dataBits sourceBit
+encode-same p q s t same =
+    by-parts (λ j. encode p q s j ≡ encode p q t j) (λ j l. encode-data p q s j l ∙ data-same j l ∙ sym (encode-data p q t j l))
+    (λ k h. encode-parity p q s k ∙ parityBit-agree (dataBits p q s) (dataBits p q t) agree k h ∙ sym (encode-parity p q t k))
+  where
+    data-same : (j : ℕ) → j < 26 → dataBits p q s j ≡ dataBits p q t j
+    data-same zero l = refl
+    data-same (suc zero) l = refl
+    data-same (suc (suc i)) l = ap (λ (x : ℕ). x ⊕ q) (same (suc i) (omega arith) (omega arith))
+
+    agree : Agree (dataBits p q s) (dataBits p q t)
+    agree = record { pairP = refl; pairQ = refl; source = λ i l h. ap (λ (x : ℕ). x ⊕ q) (data-same (suc i) (omega arith)) }
 
 module _ (p q : ℕ) (s : Bits) (bp : p < 2) (bq : q < 2) (bs : AreSource s) where
   -- ---- it is a word of bits that has the pair and the source bits

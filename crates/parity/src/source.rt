@@ -1,15 +1,23 @@
 // The source bits of a received word.
 ghost use mathlib.Core.Path.{_≡_};
-ghost use Rattle.bits.specs.Bits.{unpack};
+ghost use Prim.Native.Nat.{_<_};
+ghost use Rattle.bits.specs.Bits.{_⊕_, pack, unpack};
 ghost use Rattle.parity.specs.Word.{sourceBits};
 
-// The 24 source bits of a packed window as one number, the first highest: the received bits, with 0 and 1 swapped where Q is 1.
+// 24 bits, the lowest digits of a number, each exclusive-or q: 0 and 1 are swapped where q is odd. By Q received bits become source bits, and
+// source bits received ones.
+pub(crate) fn by_q(q: u32, bits: u32) -> u32
+    ensures { λ r. ⌜ (r ≡ pack 24 (λ i. unpack 24 bits i ⊕ q)) × (r < 0x1000000) ⌝ }
+{
+    if q % 2 == 1 {
+        return 0xffffff - bits % 0x1000000;
+    }
+    bits % 0x1000000
+}
+
+// The 24 source bits of a packed window as one number, the first highest.
 pub fn source_bits(window: u32) -> u32
     ensures { λ r. ⌜ r ≡ sourceBits (unpack 32 window) ⌝ }
 {
-    let received = window / 0x40 % 0x1000000;
-    if window / 0x40000000 % 2 == 1 {
-        return 0xffffff - received;
-    }
-    received
+    by_q(window / 0x40000000, window / 0x40)
 }

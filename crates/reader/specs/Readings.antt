@@ -49,11 +49,11 @@ module _ (s : List ℕ) (p : ℕ) where
 
 -- the header's subframe number and count are those that the block check looks at
 module _ (b : Block) where
-  header-number : headerIn (source b) .subframe ≡ subframeNumber b
+  pub header-number : headerIn (source b) .subframe ≡ subframeNumber b
   unfolding headerIn decode readField subframeNumber
   header-number = source-field b 2 (omega arith) (omega arith) 20 3 (omega arith) (omega arith)
 
-  header-count : headerIn (source b) .count ≡ count b
+  pub header-count : headerIn (source b) .count ≡ count b
   unfolding headerIn decode readField count
   header-count = source-field b 2 (omega arith) (omega arith) 1 17 (omega arith) (omega arith)
 

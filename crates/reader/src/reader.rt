@@ -1,8 +1,8 @@
 // The reader's answer: the record, or the refusal of the block check.
 use crate::numbers::number_at;
 use crate::numbers::numbers_at;
+use answer::Checked;
 use answer::Refusal;
-use block::Checked;
 use record::Header;
 use record::Record;
 ghost use mathlib.Core.Path.{_≡_};

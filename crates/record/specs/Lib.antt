@@ -10,5 +10,7 @@ pub mod Sound
 pub mod Kinds
 pub mod Records
 pub mod Held
+pub mod Taken
+pub mod Returned
 pub mod ExamplesHold
 pub mod PositionsHold

@@ -2,16 +2,15 @@
 use mathlib.Core.Path.{_≡_, refl, sym, ap, ap₂, subst, _∙_}
 use mathlib.Core.List.{List}
 use mathlib.Core.Bool.{Bool, true, _&&_}
-use Prim.Native.Nat.{ℕ, _+_, _≤_}
-use native.Mathlib.Omega.{arith}
+use Prim.Native.Nat.{ℕ, _≤_}
 use borrow.Author.Tests.{eqb-true, leb-true}
 use lib.Dec.{eqb, leb}
 use lib.ListN.{length, getD}
 use Rattle.bits.specs.Tests.{and-true}
-use Rattle.layout.specs.Layout.{Layout, size, Values, decode, allWithin}
+use Rattle.layout.specs.Layout.{Layout, size, Values, decode, encode, allWithin}
 use Rattle.layout.specs.Layouts.{widths1to32}
-use Rattle.layout.specs.Table.{widths, numbers, valuesFrom, offset, numbersAt, allFit}
-use Rattle.layout.specs.Tables.{offset-size, widths-most, table-values, fit-within}
+use Rattle.layout.specs.Table.{widths, numbers, valuesFrom, offset, numbersAt, StandIn, allFit}
+use Rattle.layout.specs.Tables.{offset-size, widths-most, table-values, stand-encode, fit-within}
 use Rattle.record.specs.Fields.{headerFields, fieldsOf}
 use Rattle.record.specs.declared.kind.Kind.{Kind}
 use Rattle.record.specs.declared.kind.Kind.the-variants.{Subframe1, Subframe2, Subframe3, Almanac, Utc, Other}
@@ -55,14 +54,20 @@ module _ (n : ℕ) (l : Layout) (h : Sound n l) (ws : List ℕ) (e : ws ≡ widt
   pub table-most : (i : ℕ) → getD ws i 0 ≤ 32
   table-most = subst (λ (x : List ℕ). (i : ℕ) → getD x i 0 ≤ 32) (sym e) (widths-most 19 l (h .widths-right))
 
-  -- read from index `at` on, it stays within a bound that holds at + n
-  pub table-room : (at bound : ℕ) → at + n ≤ bound → at + offset ws 19 ≤ bound
-  table-room at bound r = subst (λ (x : List ℕ). at + offset x 19 ≤ bound) (sym e) (omega (arith, offset-size 19 l (h .few), h .bits))
+  pub table-size : offset ws 19 ≡ n
+  table-size = ap (λ (x : List ℕ). offset x 19) e ∙ offset-size 19 l (h .few) ∙ h .bits
 
-  -- the numbers that stand in it are the values, and they fit exactly where the values are within their fields
+  -- the numbers that stand in it are the values
   pub table-decode : (at : ℕ) (bits ns : List ℕ) → ns ≡ numbersAt 19 ws at bits → valuesFrom l 0 ns ≡ decode l at bits
   table-decode at bits ns d =
       ap (valuesFrom l 0) (d ∙ ap (λ (x : List ℕ). numbersAt 19 x at bits) e) ∙ table-values 19 l (h .few) at bits
 
-  pub table-within : (v : Values l) (ns : List ℕ) → ns ≡ numbers 19 l v → allFit 19 ws ns ≡ allWithin l v
-  table-within v ns d = ap₂ (allFit 19) e d ∙ fit-within 19 l v (h .few)
+  -- the numbers of values stand in the values' bits, and fit exactly where the values are within their fields
+  module _ (v : Values l) (ns : List ℕ) (d : ns ≡ numbers 19 l v) where
+    pub table-encode : StandIn 19 ws ns (encode l v)
+    table-encode =
+        subst (λ (x : List ℕ). StandIn 19 x ns (encode l v)) (sym e)
+        (subst (λ (x : List ℕ). StandIn 19 (widths 19 l) x (encode l v)) (sym d) (stand-encode 19 l v (h .few)))
+
+    pub table-within : allFit 19 ws ns ≡ allWithin l v
+    table-within = ap₂ (allFit 19) e d ∙ fit-within 19 l v (h .few)

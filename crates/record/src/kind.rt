@@ -88,7 +88,7 @@ pub fn kind_for(subframe: u32, data_id: u32, id: u32) -> Kind
     Kind::Other
 }
 
-pub(crate) fn kind_of(r: Record) -> Kind
+pub fn kind_of(r: Record) -> Kind
     ensures { λ k. ⌜ k ≡ kindOf r ⌝ }
 {
     match r {

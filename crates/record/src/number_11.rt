@@ -5,7 +5,6 @@ use crate::kind::is_utc;
 use crate::kind::kind_of;
 use crate::numbers::field_numbers;
 use crate::numbers::header_numbers;
-use crate::record::Header;
 use crate::record::Record;
 use crate::record::header_of;
 use crate::tables::header_widths;
@@ -17,7 +16,7 @@ ghost use lib.ListN.{getD};
 ghost use Rattle.layout.specs.Layout.{allWithin};
 ghost use Rattle.layout.specs.Table.{allFit};
 ghost use Rattle.record.specs.Fields.{headerFields, fieldsOf};
-ghost use Rattle.record.specs.Record.{kindOf, headerValues, fieldValues};
+ghost use Rattle.record.specs.Record.{kindOf, header, headerValues, fieldValues};
 ghost use Rattle.record.specs.Writable as Writable;
 
 fn fits(n: u32, width: usize) -> bool
@@ -57,10 +56,10 @@ fn of_its_kind(r: Record) -> bool
 }
 
 // Whether each value of the header is within its field.
-fn header_within(h: Header) -> bool
-    ensures { λ t. ⌜ t ≡ allWithin headerFields (headerValues h) ⌝ }
+fn header_within(r: Record) -> bool
+    ensures { λ t. ⌜ t ≡ allWithin headerFields (headerValues (header r)) ⌝ }
 {
-    all_fit(header_widths(), header_numbers(h))
+    all_fit(header_widths(), header_numbers(r))
 }
 
 // Whether each value of words 3 to 10 is within its field.
@@ -74,14 +73,13 @@ fn fields_within(r: Record) -> bool
 pub fn writable(r: Record) -> bool
     ensures { λ t. ⌜ t ≡ Writable.writable r ⌝ }
 {
-    let header = header_of(r);
-    if !header_within(header) {
+    if !header_within(r) {
         return false;
     }
     if !fields_within(r) {
         return false;
     }
-    if 100799 < header.count {
+    if 100799 < header_of(r).count {
         return false;
     }
     of_its_kind(r)

@@ -1,22 +1,24 @@
 // The numbers that stand in a record's fields, in the order of the message. A signed value that is outside its field has a number outside its
 // width.
 use crate::record::AlmanacPage;
-use crate::record::Header;
 use crate::record::OtherPage;
 use crate::record::Record;
 use crate::record::Subframe1;
 use crate::record::Subframe2;
 use crate::record::Subframe3;
 use crate::record::UtcPage;
+use crate::record::header_of;
 use crate::signs::unsigned_of;
 ghost use mathlib.Core.Path.{_≡_};
 ghost use Rattle.layout.specs.Table as Table;
 ghost use Rattle.record.specs.Fields.{headerFields, subframe1Fields, subframe2Fields, subframe3Fields, almanacFields, utcFields, otherFields, fieldsOf};
-ghost use Rattle.record.specs.Record.{kindOf, headerValues, subframe1Values, subframe2Values, subframe3Values, almanacValues, utcValues, otherValues, fieldValues};
+ghost use Rattle.record.specs.Record.{kindOf, header, headerValues, subframe1Values, subframe2Values, subframe3Values, almanacValues, utcValues, otherValues, fieldValues};
 
-pub(crate) fn header_numbers(h: Header) -> [u32; 19]
-    ensures { λ n. ⌜ n ≡ Table.numbers 19 headerFields (headerValues h) ⌝ }
+// The numbers of the header.
+pub fn header_numbers(r: Record) -> [u32; 19]
+    ensures { λ n. ⌜ n ≡ Table.numbers 19 headerFields (headerValues (header r)) ⌝ }
 {
+    let h = header_of(r);
     [
         h.message,
         h.reserved,
@@ -198,7 +200,7 @@ fn other_numbers(r: OtherPage) -> [u32; 19]
 }
 
 // The numbers of a record's fields of words 3 to 10.
-pub(crate) fn field_numbers(r: Record) -> [u32; 19]
+pub fn field_numbers(r: Record) -> [u32; 19]
     ensures { λ n. ⌜ n ≡ Table.numbers 19 (fieldsOf (kindOf r)) (fieldValues r) ⌝ }
 {
     match r {

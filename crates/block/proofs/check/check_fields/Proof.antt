@@ -10,7 +10,7 @@ use borrow.Author.Tests.{not-true, not-false}
 use Rattle.bits.specs.Bits.{bitsAt, pack, unpack}
 use Rattle.parity.specs.Word.{sourceBits}
 use Rattle.block.specs.Block.{Block, preamble, count, subframeNumber, endsAlike}
-use Rattle.block.specs.Check.{checkedAnswer}
+use Rattle.answer.specs.Answer.{checkedAnswer}
 use Rattle.block.proofs.check.Packed.{packedAt, field-at}
 use Rattle.block.specs.Ways.{Framed, way-0, way-6, way-7-2, way-7-10, way-8-none, way-8-above, way-9}
 use Rattle.block.proofs.check.check_fields.Statement.{statement}

@@ -8,13 +8,13 @@ use borrow.Author.Needs.{needs}
 use borrow.Author.Tests.{not-true}
 use lib.ListN.{length}
 use Rattle.bits.specs.Bits.{bitsAt}
-use Rattle.answer.specs.Answer.{isAccepted}
-use Rattle.block.specs.Check.{checkedAnswer, acceptedAt}
+use Rattle.answer.specs.Answer.{isAccepted, checkedAnswer}
+use Rattle.block.specs.Check.{acceptedAt}
 use Rattle.block.specs.Quick.{mayStart}
 use Rattle.block.specs.Answers.{acceptedAt-false}
 use Rattle.block.specs.Acceptance.{acceptance}
 use Rattle.block.specs.Start.{starts}
-use Rattle.block.specs.declared.check.Checked.{Checked}
+use Rattle.answer.specs.declared.Checked.{Checked}
 use Rattle.block.proofs.quick.accepted_at.Statement.{statement}
 use Rattle.block.proofs.quick.accepted_at.Tie as tie
 

@@ -7,7 +7,7 @@ use Rattle.block.specs.Block.{source}
 use Rattle.record.specs.Fields.{headerFields}
 use Rattle.record.specs.Record.{headerOf}
 use Rattle.record.specs.Source.{headerIn}
-use Rattle.record.specs.Sound.{header-sound, table-most, table-room, table-decode}
+use Rattle.record.specs.Sound.{header-sound, table-most, table-size, table-decode}
 use Rattle.reader.proofs.reader.header_at.Statement.{statement}
 use Rattle.reader.proofs.reader.header_at.Tie as tie
 
@@ -15,7 +15,7 @@ numbers-at-requires : tie.Need-numbers-at-requires
 numbers-at-requires c κs =
     let ws = c .header-widths .result in
     let e = c .header-widths .ensures in
-    (table-room 38 headerFields header-sound ws e 8 240 (omega arith), table-most 38 headerFields header-sound ws e)
+    (omega (arith, table-size 38 headerFields header-sound ws e), table-most 38 headerFields header-sound ws e)
 
 returns : tie.Need-returns
 unfolding headerIn

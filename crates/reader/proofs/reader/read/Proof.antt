@@ -2,10 +2,9 @@
 use mathlib.Core.Path.{sym, ap, _∙_}
 use borrow.Author.Needs.{needs}
 use Rattle.bits.specs.Bits.{bitsAt}
-use Rattle.answer.specs.Answer.{Answer, whenAccepted}
+use Rattle.answer.specs.Answer.{Answer, whenAccepted, checkedAnswer}
 use Rattle.answer.specs.Answer as A
 use Rattle.block.specs.Block.{source}
-use Rattle.block.specs.Check.{checkedAnswer}
 use Rattle.block.specs.Compare.{Accepted}
 use Rattle.record.specs.Source.{recordOf}
 use Rattle.reader.specs.Reading.{readingAnswer, reading}

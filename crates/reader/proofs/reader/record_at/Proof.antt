@@ -11,7 +11,7 @@ use Rattle.record.specs.Kind.{kindFor}
 use Rattle.record.specs.Fields.{fieldsOf}
 use Rattle.record.specs.Record.{recordWith}
 use Rattle.record.specs.Source.{headerIn, dataIdIn, idIn, kindIn, recordOf}
-use Rattle.record.specs.Sound.{fields-sound, table-most, table-room, table-decode}
+use Rattle.record.specs.Sound.{fields-sound, table-most, table-size, table-decode}
 use Rattle.record.specs.declared.kind.Kind.{Kind}
 use Rattle.record.specs.declared.record.Header.{Header}
 use Rattle.reader.proofs.reader.record_at.Statement.{statement}
@@ -20,7 +20,7 @@ use Rattle.reader.proofs.reader.record_at.Tie as tie
 numbers-at-requires : tie.Need-numbers-at-requires
 numbers-at-requires c κs =
     let k = c .before .kind-for .result in (
-      table-room 190 (fieldsOf k) (fields-sound k) (c .widths .result) (c .widths .ensures) _ 240 (omega arith),
+      omega (arith, table-size 190 (fieldsOf k) (fields-sound k) (c .widths .result) (c .widths .ensures)),
       table-most 190 (fieldsOf k) (fields-sound k) (c .widths .result) (c .widths .ensures),
     )
 

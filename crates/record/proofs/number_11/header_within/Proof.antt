@@ -2,7 +2,7 @@
 use mathlib.Core.Path.{_∙_}
 use borrow.Author.Needs.{needs}
 use Rattle.record.specs.Fields.{headerFields}
-use Rattle.record.specs.Record.{headerValues}
+use Rattle.record.specs.Record.{header, headerValues}
 use Rattle.record.specs.Sound.{header-sound, table-most, table-within}
 use Rattle.record.proofs.number_11.header_within.Statement.{statement}
 use Rattle.record.proofs.number_11.header_within.Tie as tie
@@ -12,10 +12,10 @@ all-fit-requires c κs = table-most 38 headerFields header-sound (c .before .hea
 
 returns : tie.Need-returns
 returns c =
-    let h = c .before .before .before .args .h in
+    let r = c .before .before .before .args .r in
     let widths = c .before .before .header-widths in
     c .all-fit .ensures
-    ∙ table-within 38 headerFields header-sound (widths .result) (widths .ensures) (headerValues h) (c .before .header-numbers .result) (c .before .header-numbers .ensures)
+    ∙ table-within 38 headerFields header-sound (widths .result) (widths .ensures) (headerValues (header r)) (c .before .header-numbers .result) (c .before .header-numbers .ensures)
 
 pub header-within-spec : {M : Type 1} → statement M
 header-within-spec = tie.close (tie.spec (λ c κs. search needs) (λ c κs. search needs) all-fit-requires returns)

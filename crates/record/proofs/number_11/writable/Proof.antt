@@ -1,5 +1,5 @@
 -- `writable` meets its contract.
-use mathlib.Core.Path.{_≡_, sym, ap, subst, _∙_}
+use mathlib.Core.Path.{_≡_, sym, subst, _∙_}
 use mathlib.Core.Bool.{true, false}
 use Prim.Native.Nat.{_<_, _≤_}
 use native.Mathlib.Omega.{arith}
@@ -14,44 +14,41 @@ use Rattle.record.specs.declared.record.Header.{Header}
 use Rattle.record.proofs.number_11.writable.Statement.{statement}
 use Rattle.record.proofs.number_11.writable.Tie as tie
 
-header-is : (c : tie.After-header-within) → c .header-within .result ≡ allWithin headerFields (headerValues (header (c .before .before .args .r)))
-header-is c = c .header-within .ensures ∙ ap (λ (h : Header). allWithin headerFields (headerValues h)) (c .before .header-of .ensures)
+header-in : (c : tie.Else1) → allWithin headerFields (headerValues (header (c .before .before .args .r))) ≡ true
+header-in c = sym (c .before .header-within .ensures) ∙ not-false _ (c .if1 .left)
 
-header-in : (c : tie.Else1) → allWithin headerFields (headerValues (header (c .before .before .before .args .r))) ≡ true
-header-in c = sym (header-is (c .before)) ∙ not-false _ (c .if1 .left)
-
-fields-in : (c : tie.Else2) → allWithin (fieldsOf (kindOf (c .before .before .before .before .before .args .r))) (fieldValues (c .before .before .before .before .before .args .r)) ≡ true
+fields-in : (c : tie.Else2) → allWithin (fieldsOf (kindOf (c .before .before .before .before .args .r))) (fieldValues (c .before .before .before .before .args .r)) ≡ true
 fields-in c = sym (c .before .fields-within .ensures) ∙ not-false _ (c .if2 .left)
 
 returns : tie.Need-returns
 unfolding writable withinFields
 returns c =
-    let none : allWithin headerFields (headerValues (header (c .before .before .before .args .r))) ≡ false = sym (header-is (c .before)) ∙ not-true _ (c .if1 .taken) in
+    let none : allWithin headerFields (headerValues (header (c .before .before .args .r))) ≡ false = sym (c .before .header-within .ensures) ∙ not-true _ (c .if1 .taken) in
     rw none
 
 returns-2 : tie.Need-returns-2
 unfolding writable withinFields
 returns-2 c =
-    let r = c .before .before .before .before .before .args .r in
+    let r = c .before .before .before .before .args .r in
     let none : allWithin (fieldsOf (kindOf r)) (fieldValues r) ≡ false = sym (c .before .fields-within .ensures) ∙ not-true _ (c .if2 .taken) in
     rw (header-in (c .before .before), none)
 
 returns-3 : tie.Need-returns-3
 unfolding writable withinFields
 returns-3 c =
-    let s = c .before .before .before .before .before .before in
-    let high : ltb 100799 (header (s .before .args .r) .count) ≡ true = lt-ltb _ _ (subst (λ (h : Header). 100799 < h .count) (s .header-of .ensures) (c .if3 .taken)) in
-    rw (header-in (c .before .before .before .before), fields-in (c .before .before), high)
+    let else2 = c .before .before .before in
+    let high : ltb 100799 (header (else2 .before .before .before .before .args .r) .count) ≡ true = lt-ltb _ _ (subst (λ (h : Header). 100799 < h .count) (c .before .before .header-of .ensures) (c .if3 .taken)) in
+    rw (header-in (else2 .before .before), fields-in else2, high)
 
 returns-4 : tie.Need-returns-4
 unfolding writable withinFields
 returns-4 c =
     let d = c .before in
-    let s = d .before .before .before .before .before .before in
-    let low : ltb 100799 (header (s .before .args .r) .count) ≡ false = le-ltb _ _ (subst (λ (h : Header). h .count ≤ 100799) (s .header-of .ensures) (omega (arith, d .if3 .left))) in
-    rw (header-in (d .before .before .before .before), fields-in (d .before .before), low) (c .of-its-kind .ensures)
+    let else2 = d .before .before .before in
+    let low : ltb 100799 (header (else2 .before .before .before .before .args .r) .count) ≡ false = le-ltb _ _ (subst (λ (h : Header). h .count ≤ 100799) (d .before .before .header-of .ensures) (omega (arith, d .if3 .left))) in
+    rw (header-in (else2 .before .before), fields-in else2, low) (c .of-its-kind .ensures)
 
 pub writable-spec : {M : Type 1} → statement M
 writable-spec =
     tie.close
-    (tie.spec (λ c κs. search needs) (λ c κs. search needs) returns (λ c κs. search needs) returns-2 returns-3 (λ c κs. search needs) returns-4)
+    (tie.spec (λ c κs. search needs) returns (λ c κs. search needs) returns-2 (λ c κs. search needs) returns-3 (λ c κs. search needs) returns-4)

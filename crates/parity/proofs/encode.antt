@@ -1,0 +1,2 @@
+-- The laws that the proofs of `encode` cite.
+pub mod Packed

@@ -1,0 +1,2 @@
+-- The laws that the proofs of `syndrome` cite.
+pub mod Masks

@@ -1,0 +1,231 @@
+-- Laws. Demand 2: reading a written block returns the record; a block read and written at its own polarity returns unchanged; a record has one
+-- block per polarity; number 11 refuses exactly the records that no accepted block reads as.
+use mathlib.Core.Path.{_≡_, refl, sym, ap, subst, _∙_}
+use mathlib.Core.Bool.{Bool, true, false, false≢true}
+use mathlib.Core.List.{List, _++_}
+use mathlib.Core.Logic.{_↔_, _⊎_, inl, inr}
+use Prim.Native.Nat.{ℕ, _+_, _%_, _<_, _≤_}
+use native.Mathlib.Nat.{zero-add}
+use native.Mathlib.Omega.{arith}
+use lib.ListN.{length, getD, drop, length-append, length-drop, List·getD-append}
+use Rattle.bits.specs.Bits.{_⊕_, bitsAt, unpack}
+use Rattle.bits.specs.Pack.{pack-same, pack-unpack}
+use Rattle.bits.specs.Tabulate.{tabulate}
+use Rattle.bits.specs.Tabulated.{tabulate-at, tabulate-length, tabulate-same}
+use Rattle.answer.specs.Answer.{accepted, refused}
+use Rattle.block.specs.Block.{Block, preamble, count, subframeNumber, source}
+use Rattle.block.specs.Compare.{Accepted, Conforms, Equal, Inverse}
+use Rattle.block.specs.Acceptance.{acceptance}
+use Rattle.block.specs.Polarity.{startBit, polarityOf}
+use Rattle.block.specs.Polarities.{startBit-lt, polarity-start}
+use Rattle.block.specs.Source.{source-field}
+use Rattle.block.specs.declared.polarity.Polarity.{Polarity}
+use Rattle.block.specs.declared.polarity.Polarity.the-variants.{Upright, Inverted}
+use Rattle.record.specs.Held.{record-header}
+use Rattle.record.specs.Record.{header}
+use Rattle.record.specs.Returned.{record-returned}
+use Rattle.record.specs.Source.{headerIn, recordOf}
+use Rattle.record.specs.Taken.{taken, own-number}
+use Rattle.record.specs.Writable.{writable}
+use Rattle.record.specs.declared.record.Header.{Header}
+use Rattle.record.specs.declared.record.Record.{Record}
+use Rattle.reader.specs.Reading.{reading}
+use Rattle.reader.specs.Readings.{reads, read-accepted, reads-writable, header-number, header-count}
+use Rattle.reader.specs.SameRecord.{record-unique}
+use Rattle.writer.specs.Written.{messageOf, hasFillers, blockFrom, blockOf, Holds}
+use Rattle.writer.specs.Writing.{writing, bufferAfter}
+use Rattle.writer.specs.Writings.{way-11, way-0, only-11, accepts, after-writing}
+use Rattle.writer.specs.Message.{message-lt, message-preamble, message-header, message-fields}
+use Rattle.writer.specs.Carrying.{carrying-bits, carrying-start, carrying-words, carrying-ends, carrying-source}
+
+-- ---- the written block
+
+module _ (r : Record) (polarity : Polarity) (b : Block) (same : Equal b (blockOf r polarity)) where
+  abbrev m : ℕ → ℕ
+  m = messageOf r
+
+  carries : Equal b (blockFrom m (startBit polarity))
+  unfolding blockOf
+  carries = same
+
+  held : (i : ℕ) → (i < 46) ⊎ ((48 ≤ i) × (i < 238)) → getD (source b) i 0 ≡ m i
+  held = carrying-source m (startBit polarity) (message-lt r) (startBit-lt polarity) b carries
+
+  preamble-written : preamble b ≡ 0b10001011
+  unfolding preamble
+  preamble-written =
+      sym (source-field b 1 (omega arith) (omega arith) 1 8 (omega arith) (omega arith))
+      ∙ pack-same 8 (bitsAt (source b) 0) (unpack 8 0b10001011) (λ j h. ap (λ (x : ℕ). x % 2) (at j h))
+      ∙ pack-unpack 8 0b10001011 (omega arith)
+    where
+      at : (j : ℕ) → j < 8 → getD (source b) (0 + j) 0 ≡ unpack 8 0b10001011 j
+      at j h = ap (λ (n : ℕ). getD (source b) n 0) (zero-add j) ∙ held j (inl (omega arith)) ∙ message-preamble r j h
+
+  module _ (h : writable r ≡ true) where
+    record-written : recordOf (source b) ≡ r
+    record-written =
+        record-returned (source b) r h
+        (λ j l. ap (λ (x : ℕ). x % 2) (held (8 + j) (inl (omega arith)) ∙ message-header r j l))
+        (λ j l. ap (λ (x : ℕ). x % 2) (held (48 + j) (inr (omega arith, omega arith)) ∙ message-fields r j l))
+
+    header-written : headerIn (source b) ≡ header r
+    header-written = sym (record-header (source b)) ∙ ap header record-written
+
+    conforms : Conforms b
+    unfolding hasFillers
+    conforms =
+        let number : subframeNumber b ≡ header r .subframe = sym (header-number b) ∙ ap (λ (x : Header). x .subframe) header-written in
+        let total : count b ≡ header r .count = sym (header-count b) ∙ ap (λ (x : Header). x .count) header-written in
+        let range = own-number r (taken r h .of-its-kind) in
+        let a = startBit polarity in
+        let ends = carrying-ends m a (message-lt r) (startBit-lt polarity) b carries in
+        let start = carrying-start m a (message-lt r) (startBit-lt polarity) b carries in
+        record {
+          pair = start .0 ∙ sym (start .1);
+          words = carrying-words m a (message-lt r) (startBit-lt polarity) b carries;
+          preamble-right = preamble-written;
+          ends-2 = ends 2 (omega arith) (omega arith) refl;
+          ends-10 = ends 10 (omega arith) (omega arith) refl;
+          number-low = omega (arith, number, range);
+          number-high = omega (arith, number, range);
+          count-high = omega (arith, total, taken r h .count-high);
+        }
+
+module _ (r : Record) (polarity : Polarity) (h : writable r ≡ true) (s : List ℕ) (p : ℕ) (at : Holds s p (blockOf r polarity)) where
+  -- it is accepted
+  pub written-accepted : Accepted s p
+  unfolding blockOf
+  written-accepted =
+      acceptance s p .1 (
+        record {
+          short = at .short;
+          room = at .room;
+          bits = carrying-bits (messageOf r) (startBit polarity) (message-lt r) (startBit-lt polarity) (bitsAt s p) (at .equal);
+        },
+        conforms r polarity (bitsAt s p) (at .equal) h,
+      )
+
+  -- and reads as the record
+  pub written-reads : reading s p ≡ accepted r
+  written-reads = reads s p written-accepted ∙ ap accepted (record-written r polarity (bitsAt s p) (at .equal) h)
+
+-- ---- written again
+
+-- the block alone, as a log
+alone : (b : Block) → Holds (tabulate 302 b) 0 b
+alone b =
+    record {
+      short = omega (arith, tabulate-length 302 b);
+      room = omega (arith, tabulate-length 302 b);
+      equal = λ i h. ap (λ (n : ℕ). getD (tabulate 302 b) n 0) (zero-add i) ∙ tabulate-at 302 b i h;
+    }
+
+-- a block that reads as a record is the record's at its own polarity
+pub read-written : (s : List ℕ) (p : ℕ) (r : Record) → reading s p ≡ accepted r → Equal (bitsAt s p) (blockOf r (polarityOf (bitsAt s p)))
+unfolding blockOf blockFrom
+read-written s p r e =
+    go (record-unique s log p 0 taken-in (written-accepted r polarity h log 0 (alone written)) .0 (e ∙ sym (written-reads r polarity h log 0 (alone written))))
+  where
+    polarity : Polarity
+    polarity = polarityOf (bitsAt s p)
+
+    written : Block
+    written = blockOf r polarity
+
+    log : List ℕ
+    log = tabulate 302 written
+
+    h : writable r ≡ true
+    h = reads-writable s p r e
+
+    taken-in : Accepted s p
+    taken-in = read-accepted s p r e .0
+
+    first : bitsAt s p 0 < 2
+    first = acceptance s p .0 taken-in .0 .bits 0 (omega arith)
+
+    go : Equal (bitsAt s p) (bitsAt log 0) ⊎ Inverse (bitsAt s p) (bitsAt log 0) → Equal (bitsAt s p) written
+    go (inl same) i l = same i l ∙ alone written .equal i l
+    go (inr swapped) i l =
+        absurd (omega (arith, swapped 0 (omega arith), alone written .equal 0 (omega arith), polarity-start (bitsAt s p) first, first))
+
+-- so it is the only accepted block of its polarity that reads as the record
+pub one-block : (s : List ℕ) (p : ℕ) (r : Record) (polarity : Polarity) → reading s p ≡ accepted r → polarityOf (bitsAt s p) ≡ polarity
+    → Equal (bitsAt s p) (blockOf r polarity)
+one-block s p r polarity e q = subst (λ (x : Polarity). Equal (bitsAt s p) (blockOf r x)) q (read-written s p r e)
+
+-- and the other polarity's block is its inverse
+pub polarities-inverse : (r : Record) → writable r ≡ true → Inverse (blockOf r Upright) (blockOf r Inverted)
+unfolding blockOf blockFrom
+polarities-inverse r h =
+    go
+    (record-unique (log Upright) (log Inverted) 0 0 (accepts-it Upright) (accepts-it Inverted) .0
+    (written-reads r Upright h (log Upright) 0 (stands Upright) ∙ sym (written-reads r Inverted h (log Inverted) 0 (stands Inverted))))
+  where
+    log : Polarity → List ℕ
+    log a = tabulate 302 (blockOf r a)
+
+    stands : (a : Polarity) → Holds (log a) 0 (blockOf r a)
+    stands a = alone (blockOf r a)
+
+    accepts-it : (a : Polarity) → Accepted (log a) 0
+    accepts-it a = written-accepted r a h (log a) 0 (stands a)
+
+    go : Equal (bitsAt (log Upright) 0) (bitsAt (log Inverted) 0) ⊎ Inverse (bitsAt (log Upright) 0) (bitsAt (log Inverted) 0)
+        → Inverse (blockOf r Upright) (blockOf r Inverted)
+    go (inl same) i l = absurd (omega (arith, same 0 (omega arith), stands Upright .equal 0 (omega arith), stands Inverted .equal 0 (omega arith)))
+    go (inr swapped) i l =
+        sym (stands Inverted .equal i l) ∙ swapped i l ∙ ap (λ (x : ℕ). x ⊕ 1) (stands Upright .equal i l)
+
+-- ---- number 11
+
+-- a record is refused 11 exactly when no accepted block reads as it
+pub number-11 : (r : Record) (buffer : List ℕ) → (writing r buffer ≡ refused 11 0) ↔ ((s : List ℕ) (p : ℕ) → reading s p ≡ accepted r → ⊥)
+number-11 r buffer = (
+  λ e s p q. false≢true (sym (only-11 r buffer e) ∙ reads-writable s p r q),
+  λ none. sym (way-11 r buffer (go (writable r) refl none)),
+)
+  where
+    go : (t : Bool) → writable r ≡ t → ((s : List ℕ) (p : ℕ) → reading s p ≡ accepted r → ⊥) → t ≡ false
+    go false h none = refl
+    go true h none = absurd (none (tabulate 302 (blockOf r Upright)) 0 (written-reads r Upright h (tabulate 302 (blockOf r Upright)) 0 (alone (blockOf r Upright))))
+
+-- ---- the buffer that the writer leaves
+
+module _ (r : Record) (polarity : Polarity) (buffer : List ℕ) (e : writing r buffer ≡ accepted tt) where
+  abbrev after : List ℕ
+  after = bufferAfter r polarity buffer
+
+  after-length : length after ≡ length buffer
+  after-length =
+      ap length (after-writing r buffer polarity e)
+      ∙ length-append (tabulate 302 (blockOf r polarity)) (drop 302 buffer)
+      ∙ omega (arith, tabulate-length 302 (blockOf r polarity), length-drop 302 buffer, accepts r buffer e .1)
+
+  -- its first 302 bytes are the block
+  pub after-holds : length buffer ≤ 65536 → Holds after 0 (blockOf r polarity)
+  after-holds short =
+      record {
+        short = omega (arith, after-length);
+        room = omega (arith, after-length, accepts r buffer e .1);
+        equal = λ i h.
+            ap (λ (n : ℕ). getD after n 0) (zero-add i)
+            ∙ ap (λ (xs : List ℕ). getD xs i 0) (after-writing r buffer polarity e)
+            ∙ List·getD-append (tabulate 302 (blockOf r polarity)) (drop 302 buffer) 0 i (omega (arith, tabulate-length 302 (blockOf r polarity)))
+            ∙ tabulate-at 302 (blockOf r polarity) i h;
+      }
+
+  -- so the reader finds the record in it
+  pub after-reads : length buffer ≤ 65536 → reading after 0 ≡ accepted r
+  after-reads short = written-reads r polarity (accepts r buffer e .0) after 0 (after-holds short)
+
+-- what was read from p and is written at its own polarity is the 302 bytes from p on
+pub rewritten : (s : List ℕ) (p : ℕ) (r : Record) (buffer : List ℕ) → reading s p ≡ accepted r → 302 ≤ length buffer
+    → (writing r buffer ≡ accepted tt) × (bufferAfter r (polarityOf (bitsAt s p)) buffer ≡ tabulate 302 (bitsAt s p) ++ drop 302 buffer)
+rewritten s p r buffer e l =
+    let polarity = polarityOf (bitsAt s p) in
+    let taken-in : writing r buffer ≡ accepted tt = sym (way-0 r buffer (reads-writable s p r e) l) in (
+      taken-in,
+      after-writing r buffer polarity taken-in
+          ∙ ap (λ (xs : List ℕ). xs ++ drop 302 buffer) (tabulate-same 302 (blockOf r polarity) (bitsAt s p) (λ i h. sym (read-written s p r e i h))),
+    )

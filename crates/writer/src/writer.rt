@@ -1,0 +1,35 @@
+// The writer's answer, and the block in the caller's buffer.
+use crate::message::message_of;
+use crate::words::put_block;
+use answer::Checked;
+use answer::refused;
+use block::Polarity;
+use record::Record;
+ghost use mathlib.Core.Path.{_≡_};
+ghost use Rattle.answer.specs.Answer.{checkedAnswer};
+ghost use Rattle.block.specs.Polarity.{startBit};
+ghost use Rattle.writer.specs.Writing.{writing, bufferAfter};
+
+fn start_bit(polarity: Polarity) -> u32
+    ensures { λ a. ⌜ a ≡ startBit polarity ⌝ }
+{
+    match polarity {
+        Polarity::Upright => 0,
+        Polarity::Inverted => 1,
+    }
+}
+
+// Writes the block of a record into the first 302 bytes of a buffer, or refuses and leaves the buffer as it was.
+pub fn write(r: Record, polarity: Polarity, buf: &mut [u8]) -> Checked
+    ensures { λ w. ⌜ (checkedAnswer w ≡ writing r (now (buf .entry))) × (now (buf .exit) ≡ bufferAfter r polarity (now (buf .entry))) ⌝ }
+{
+    if !record::writable(r) {
+        return refused(11, 0);
+    }
+    if buf.len() < 302 {
+        return refused(12, buf.len());
+    }
+    let message = message_of(r);
+    put_block(buf, &message, start_bit(polarity));
+    Checked::Accepted
+}
