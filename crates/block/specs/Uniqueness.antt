@@ -5,12 +5,12 @@ use mathlib.Core.Bool.{true}
 use mathlib.Core.List.{List}
 use mathlib.Core.Logic.{_↔_, _⊎_, inl, inr, ⊎-elim}
 use Prim.Native.Nat.{ℕ, zero, suc, _+_, _-_, _*_, _<_, _≤_}
-use native.Mathlib.Decide.{ℕ-discrete, decLt}
+use native.Mathlib.Decide.{ℕ-discrete}
 use native.Mathlib.Omega.{arith}
 use Rattle.bits.specs.Bits.{_⊕_, AreBits, bitsAt, inverse}
 use Rattle.parity.specs.Word.{sourceBit}
 use Rattle.parity.specs.OneWord.{one-word}
-use Rattle.parity.specs.Fillers.{same-fillers}
+use Rattle.parity.specs.Fillers.{by-fillers, same-fillers}
 use Rattle.block.specs.Block.{Block, window, endsAlike, source}
 use Rattle.block.specs.Compare.{Stands, Accepted, Conforms, Equal, Inverse}
 use Rattle.block.specs.Windows.{by-windows}
@@ -52,26 +52,21 @@ module _
     -- so all 24 source bits of each word are the same, if its pair is
     all-same : (k : ℕ) → 1 ≤ k → k ≤ 10 → window b k 0 ≡ window c k 0 → window b k 1 ≡ window c k 1
         → (i : ℕ) → 1 ≤ i → i ≤ 24 → sourceBit (window b k) i ≡ sourceBit (window c k) i
-    all-same k l h p q i m n = go (decLt 22 i) (ℕ-discrete k 2) (ℕ-discrete k 10)
+    all-same k l h p q = go (ℕ-discrete k 2) (ℕ-discrete k 10)
       where
-        known : (j : ℕ) → 1 ≤ j → j ≤ 22 → sourceBit (window b k) j ≡ sourceBit (window c k) j
+        SameBit : ℕ → Type 0
+        SameBit i = sourceBit (window b k) i ≡ sourceBit (window c k) i
+
+        known : (j : ℕ) → 1 ≤ j → j ≤ 22 → SameBit j
         known j l' h' = same k l h j l' (omega arith) (λ e. h', λ e. h')
 
-        filler : 22 < i → (k ≡ 2) ⊎ (k ≡ 10) → sourceBit (window b k) i ≡ sourceBit (window c k) i
-        filler u d = either (fillers-same k l h d p q known) (ℕ-discrete i 23)
-          where
-            either : (sourceBit (window b k) 23 ≡ sourceBit (window c k) 23) × (sourceBit (window b k) 24 ≡ sourceBit (window c k) 24) → Dec (i ≡ 23)
-                → sourceBit (window b k) i ≡ sourceBit (window c k) i
-            either f (yes e) = subst (λ (j : ℕ). sourceBit (window b k) j ≡ sourceBit (window c k) j) (sym e) (f .0)
-            either f (no e) =
-                let last : 24 ≡ i = omega arith in
-                subst (λ (j : ℕ). sourceBit (window b k) j ≡ sourceBit (window c k) j) last (f .1)
+        filled : (k ≡ 2) ⊎ (k ≡ 10) → (i : ℕ) → 1 ≤ i → i ≤ 24 → SameBit i
+        filled d = let f = fillers-same k l h d p q known in by-fillers SameBit known (f .0) (f .1)
 
-        go : Dec (22 < i) → Dec (k ≡ 2) → Dec (k ≡ 10) → sourceBit (window b k) i ≡ sourceBit (window c k) i
-        go (no u) d2 d10 = known i m (omega arith)
-        go (yes u) (yes e) d10 = filler u (inl e)
-        go (yes u) (no v) (yes e) = filler u (inr e)
-        go (yes u) (no v) (no w) = same k l h i m n (λ e. absurd (v e), λ e. absurd (w e))
+        go : Dec (k ≡ 2) → Dec (k ≡ 10) → (i : ℕ) → 1 ≤ i → i ≤ 24 → SameBit i
+        go (yes e) d i m n = filled (inl e) i m n
+        go (no v) (yes e) i m n = filled (inr e) i m n
+        go (no v) (no w) i m n = same k l h i m n (λ e. absurd (v e), λ e. absurd (w e))
 
     -- each word decides the next, which its last two bits begin
     by-pair : (k : ℕ) → 1 ≤ k → k ≤ 10 → window b k 0 ≡ window c k 0 → window b k 1 ≡ window c k 1 → SameWindow k

@@ -1,11 +1,11 @@
 -- Laws. For a pair, 22 source bits and a wanted ending exactly one choice of the two fillers ends the word so.
-use mathlib.Core.Path.{_≡_, refl, sym, ap, _∙_}
+use mathlib.Core.Path.{_≡_, refl, sym, ap, subst, _∙_}
 use mathlib.Core.Bool.{Bool, true, false, cond}
 use mathlib.Core.Logic.{_↔_}
 use Prim.Native.Nat.{ℕ, zero, suc, _+_, _%_, _<_, _≤_}
-use native.Mathlib.Decide.{ℕ-discrete}
+use native.Mathlib.Decide.{ℕ-discrete, decLt}
 use native.Mathlib.Omega.{arith}
-use borrow.Author.Tests.{eq-eqb, ne-eqb}
+use borrow.Author.Tests.{ne-eqb}
 use lib.Dec.{eqb, lit<}
 use Rattle.bits.specs.Bits.{_⊕_, Bits, AreBits, Same, xor}
 use Rattle.bits.specs.Xor.{odd-only, interchange}
@@ -13,10 +13,23 @@ use Rattle.bits.specs.Every.{everyBelow}
 use Rattle.bits.specs.Tests.{equal-below₂}
 use Rattle.parity.specs.Table.{table, line}
 use Rattle.parity.specs.Word.{Window, receivedBit, sourceBit, sourceSum, parityBit, passes}
-use Rattle.parity.specs.Encode.{AreSource, Carries, dataBits, encode, withFillers, filler23, filler24, encodeEnding}
+use Rattle.parity.specs.Encode.{AreSource, dataBits, encode, withFillers, filler23, filler24, encodeEnding}
 use Rattle.parity.specs.Linear.{parityBit-linear}
 use Rattle.parity.specs.Local.{parityBit-local}
 use Rattle.parity.specs.OneWord.{encode-parity, encode-same, encode-passes, encode-bits, encode-carries, encode-only}
+
+-- what holds at source bits 1 to 22 and at both fillers holds at all 24
+pub by-fillers : (A : ℕ → Type 0) → ((i : ℕ) → 1 ≤ i → i ≤ 22 → A i) → A 23 → A 24 → (i : ℕ) → 1 ≤ i → i ≤ 24 → A i
+by-fillers A before first second i l h = go (decLt 22 i) (ℕ-discrete i 23)
+  where
+    go : Dec (22 < i) → Dec (i ≡ 23) → A i
+    go (no u) d = before i l (omega arith)
+    go (yes u) (yes e) = subst A (sym e) first
+    go (yes u) (no v) = let last : 24 ≡ i = omega arith in subst A last second
+
+pub fillers-keep : (s : Bits) (x y i : ℕ) → i ≤ 22 → withFillers s x y i ≡ s i
+unfolding withFillers
+fillers-keep s x y i h = rw (ne-eqb i 23 (λ e. omega arith), ne-eqb i 24 (λ e. omega arith))
 
 -- what the fillers x and y alone contribute to the bit of line k
 share : ℕ → ℕ → ℕ → ℕ
@@ -94,12 +107,9 @@ module _ (p q : ℕ) (s : Bits) (x y : ℕ) where
 module _ (p q : ℕ) (s t : Bits) (same : (i : ℕ) → 1 ≤ i → i ≤ 22 → s i ≡ t i) where
   with-same : (x y i : ℕ) → 1 ≤ i → i ≤ 24 → withFillers s x y i ≡ withFillers t x y i
   unfolding withFillers
-  with-same x y i l h = go (ℕ-discrete i 23) (ℕ-discrete i 24)
-    where
-      go : Dec (i ≡ 23) → Dec (i ≡ 24) → cond (eqb i 23) x (cond (eqb i 24) y (s i)) ≡ cond (eqb i 23) x (cond (eqb i 24) y (t i))
-      go (yes e) d = rw (eq-eqb i 23 e)
-      go (no n) (yes e) = rw (ne-eqb i 23 n, eq-eqb i 24 e)
-      go (no n) (no m) = rw (ne-eqb i 23 n, ne-eqb i 24 m) (same i l (omega arith))
+  with-same x y =
+      by-fillers (λ i. withFillers s x y i ≡ withFillers t x y i)
+      (λ i l h. fillers-keep s x y i h ∙ same i l h ∙ sym (fillers-keep t x y i h)) refl refl
 
   filled-same : (x y j : ℕ) → j < 32 → encode p q (withFillers s x y) j ≡ encode p q (withFillers t x y) j
   filled-same x y = encode-same p q (withFillers s x y) (withFillers t x y) (with-same x y)
@@ -114,44 +124,38 @@ module _ (p q : ℕ) (s t : Bits) (same : (i : ℕ) → 1 ≤ i → i ≤ 22 →
 
 -- ---- the word with the fillers of the formulas
 
+-- w passes, has the pair p, q and source bits 1 to 22 of s, and ends with a and b
+pub record Ending (p q : ℕ) (s : Bits) (a b : ℕ) (w : Window) : Type 0 where
+  pub bits : AreBits 32 w
+  pub pass : passes w ≡ true
+  pub pairP : w 0 ≡ p
+  pub pairQ : w 1 ≡ q
+  pub source : (i : ℕ) → 1 ≤ i → i ≤ 22 → sourceBit w i ≡ s i
+  pub ends : (receivedBit w 29 ≡ a) × (receivedBit w 30 ≡ b)
+
 module _ (p q : ℕ) (s : Bits) (bp : p < 2) (bq : q < 2) (bs : AreSource s) (a b : ℕ) (ba : a < 2) (bb : b < 2) where
-  -- its source bits
-  ending-source-bits : Bits
-  ending-source-bits = withFillers s (filler23 p q s a b) (filler24 p q s a)
+  abbrev x : ℕ
+  x = filler23 p q s a b
 
-  ending-lt : AreSource ending-source-bits
-  unfolding ending-source-bits withFillers filler23 filler24
-  ending-lt i l h = go (eqb i 23) (eqb i 24)
-    where
-      go : (x y : Bool) → cond x (filler23 p q s a b) (cond y (filler24 p q s a) (s i)) < 2
-      go true y = omega arith
-      go false true = omega arith
-      go false false = bs i l h
+  abbrev y : ℕ
+  y = filler24 p q s a
 
-  pub ending-bits : AreBits 32 (encodeEnding p q s a b)
-  unfolding encodeEnding ending-source-bits
-  ending-bits = encode-bits p q ending-source-bits bp bq ending-lt
+  filled-lt : AreSource (withFillers s x y)
+  unfolding withFillers filler23 filler24
+  filled-lt = by-fillers (λ i. withFillers s x y i < 2) (λ i l h. rw (fillers-keep s x y i h) (bs i l (omega arith))) (omega arith) (omega arith)
 
-  pub ending-passes : passes (encodeEnding p q s a b) ≡ true
-  unfolding encodeEnding ending-source-bits
-  ending-passes = encode-passes p q ending-source-bits
-
-  ending-carries : Carries p q ending-source-bits (encodeEnding p q s a b)
-  unfolding encodeEnding ending-source-bits
-  ending-carries = encode-carries p q ending-source-bits bp bq ending-lt
-
-  pub ending-pair : (encodeEnding p q s a b 0 ≡ p) × (encodeEnding p q s a b 1 ≡ q)
-  ending-pair = (ending-carries .pairP, ending-carries .pairQ)
-
-  pub ending-source : (i : ℕ) → 1 ≤ i → i ≤ 22 → sourceBit (encodeEnding p q s a b) i ≡ s i
-  unfolding ending-source-bits withFillers
-  ending-source i l h =
-      ending-carries .source i l (omega arith)
-      ∙ rw (ne-eqb i 23 (λ e. omega arith), ne-eqb i 24 (λ e. omega arith))
-
-  pub ending-ends : (receivedBit (encodeEnding p q s a b) 29 ≡ a) × (receivedBit (encodeEnding p q s a b) 30 ≡ b)
+  pub ending : Ending p q s a b (encodeEnding p q s a b)
   unfolding encodeEnding filler23 filler24
-  ending-ends = fillers p q s (filler23 p q s a b) (filler24 p q s a) (omega arith) (omega arith) a b ba bb .1 (refl, refl)
+  ending =
+      let has = encode-carries p q (withFillers s x y) bp bq filled-lt in
+      record {
+        bits = encode-bits p q (withFillers s x y) bp bq filled-lt;
+        pass = encode-passes p q (withFillers s x y);
+        pairP = has .pairP;
+        pairQ = has .pairQ;
+        source = λ i l h. has .source i l (omega arith) ∙ fillers-keep s x y i h;
+        ends = fillers p q s x y (omega arith) (omega arith) a b ba bb .1 (refl, refl);
+      }
 
 -- ---- the fillers of a passing word are those that its ending asks
 
@@ -161,12 +165,9 @@ module _ (w : Window) (s : Bits) (bits : AreBits 32 w) (passing : passes w ≡ t
 
   has-source : (i : ℕ) → 1 ≤ i → i ≤ 24 → sourceBit w i ≡ own-source i
   unfolding own-source withFillers
-  has-source i l h = go (ℕ-discrete i 23) (ℕ-discrete i 24)
-    where
-      go : Dec (i ≡ 23) → Dec (i ≡ 24) → sourceBit w i ≡ cond (eqb i 23) (sourceBit w 23) (cond (eqb i 24) (sourceBit w 24) (s i))
-      go (yes e) d = rw (eq-eqb i 23 e) (ap (sourceBit w) e)
-      go (no n) (yes e) = rw (ne-eqb i 23 n, eq-eqb i 24 e) (ap (sourceBit w) e)
-      go (no n) (no m) = rw (ne-eqb i 23 n, ne-eqb i 24 m) (same i l (omega arith))
+  has-source =
+      by-fillers (λ i. sourceBit w i ≡ withFillers s (sourceBit w 23) (sourceBit w 24) i)
+      (λ i l h. same i l h ∙ sym (fillers-keep s (sourceBit w 23) (sourceBit w 24) i h)) refl refl
 
   is-encoded : (j : ℕ) → j < 32 → w j ≡ encode (w 0) (w 1) own-source j
   unfolding sourceBit

@@ -3,6 +3,7 @@ use crate::record::Record;
 ghost use mathlib.Core.Path.{_≡_};
 ghost use Rattle.record.specs.Kind.{isPage, isAlmanac, isUtc, isOther, kindFor};
 ghost use Rattle.record.specs.Record.{kindOf};
+ghost use Rattle.record.specs.Writable.{ofItsKind};
 
 pub enum Kind {
     Subframe1,
@@ -14,7 +15,7 @@ pub enum Kind {
 }
 
 // Whether a subframe with this number holds a page.
-pub(crate) fn is_page(subframe: u32) -> bool
+fn is_page(subframe: u32) -> bool
     ensures { λ r. ⌜ r ≡ isPage subframe ⌝ }
 {
     if subframe == 4 {
@@ -24,7 +25,7 @@ pub(crate) fn is_page(subframe: u32) -> bool
 }
 
 // Whether a page with this data ID field and ID is an almanac page.
-pub(crate) fn is_almanac(subframe: u32, data_id: u32, id: u32) -> bool
+fn is_almanac(subframe: u32, data_id: u32, id: u32) -> bool
     ensures { λ r. ⌜ r ≡ isAlmanac subframe data_id id ⌝ }
 {
     if !is_page(subframe) {
@@ -40,7 +41,7 @@ pub(crate) fn is_almanac(subframe: u32, data_id: u32, id: u32) -> bool
 }
 
 // Whether it is the UTC page.
-pub(crate) fn is_utc(subframe: u32, data_id: u32, id: u32) -> bool
+fn is_utc(subframe: u32, data_id: u32, id: u32) -> bool
     ensures { λ r. ⌜ r ≡ isUtc subframe data_id id ⌝ }
 {
     if subframe != 4 {
@@ -53,7 +54,7 @@ pub(crate) fn is_utc(subframe: u32, data_id: u32, id: u32) -> bool
 }
 
 // Whether a page with this data ID field and ID is neither an almanac page nor the UTC page.
-pub(crate) fn is_other(subframe: u32, data_id: u32, id: u32) -> bool
+fn is_other(subframe: u32, data_id: u32, id: u32) -> bool
     ensures { λ r. ⌜ r ≡ isOther subframe data_id id ⌝ }
 {
     if !is_page(subframe) {
@@ -98,5 +99,19 @@ pub fn kind_of(r: Record) -> Kind
         Record::Almanac(_) => Kind::Almanac,
         Record::Utc(_) => Kind::Utc,
         Record::Other(_) => Kind::Other,
+    }
+}
+
+// Whether the subframe number and the IDs are those of the record's kind.
+pub fn of_its_kind(r: Record) -> bool
+    ensures { λ t. ⌜ t ≡ ofItsKind r ⌝ }
+{
+    match r {
+        Record::Subframe1(s) => s.header.subframe == 1,
+        Record::Subframe2(s) => s.header.subframe == 2,
+        Record::Subframe3(s) => s.header.subframe == 3,
+        Record::Almanac(p) => is_almanac(p.header.subframe, p.data_id, p.sv_id),
+        Record::Utc(p) => is_utc(p.header.subframe, p.data_id, p.id),
+        Record::Other(p) => is_other(p.header.subframe, p.data_id, p.id),
     }
 }

@@ -1,20 +1,12 @@
-// The records of the message: the six kinds, and which of them the writer takes.
-mod from_numbers;
+// The records of the message: the six kinds, and the widths of their fields.
 mod kind;
-mod number_11;
-mod numbers;
 mod record;
-mod signs;
 mod tables;
 
-pub use from_numbers::header_from;
-pub use from_numbers::record_from;
 pub use kind::Kind;
 pub use kind::kind_for;
 pub use kind::kind_of;
-pub use number_11::writable;
-pub use numbers::field_numbers;
-pub use numbers::header_numbers;
+pub use kind::of_its_kind;
 pub use record::AlmanacPage;
 pub use record::Header;
 pub use record::OtherPage;

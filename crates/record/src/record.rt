@@ -1,8 +1,6 @@
 // The records: six kinds of subframe, each with the header of words 1 and 2 and the fields of words 3 to 10 in document 01's order.
 // An unsigned field is a u32 and a signed one an i32, the whole number that stands in the message. A field that the message reserves is
 // named for its word.
-ghost use mathlib.Core.Path.{_≡_};
-ghost use Rattle.record.specs.Record.{header};
 
 // Words 1 and 2 after the preamble.
 pub struct Header {
@@ -129,17 +127,4 @@ pub enum Record {
     Almanac(AlmanacPage),
     Utc(UtcPage),
     Other(OtherPage),
-}
-
-pub(crate) fn header_of(r: Record) -> Header
-    ensures { λ h. ⌜ h ≡ header r ⌝ }
-{
-    match r {
-        Record::Subframe1(s) => s.header,
-        Record::Subframe2(s) => s.header,
-        Record::Subframe3(s) => s.header,
-        Record::Almanac(p) => p.header,
-        Record::Utc(p) => p.header,
-        Record::Other(p) => p.header,
-    }
 }

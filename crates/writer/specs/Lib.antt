@@ -7,4 +7,5 @@ pub mod Message
 pub mod Words
 pub mod Carrying
 pub mod Writings
+pub mod WrittenReads
 pub mod RoundTrip

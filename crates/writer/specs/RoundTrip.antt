@@ -1,115 +1,33 @@
--- Laws. Demand 2: reading a written block returns the record; a block read and written at its own polarity returns unchanged; a record has one
--- block per polarity; number 11 refuses exactly the records that no accepted block reads as.
+-- Laws. Demand 2: a block read and written at its own polarity returns unchanged; a record has one block per polarity; number 11 refuses exactly the
+-- records that no accepted block reads as.
 use mathlib.Core.Path.{_≡_, refl, sym, ap, subst, _∙_}
 use mathlib.Core.Bool.{Bool, true, false, false≢true}
 use mathlib.Core.List.{List, _++_}
 use mathlib.Core.Logic.{_↔_, _⊎_, inl, inr}
-use Prim.Native.Nat.{ℕ, _+_, _%_, _<_, _≤_}
+use Prim.Native.Nat.{ℕ, _+_, _<_, _≤_}
 use native.Mathlib.Nat.{zero-add}
 use native.Mathlib.Omega.{arith}
 use lib.ListN.{length, getD, drop, length-append, length-drop, List·getD-append}
-use Rattle.bits.specs.Bits.{_⊕_, bitsAt, unpack}
-use Rattle.bits.specs.Pack.{pack-same, pack-unpack}
+use Rattle.bits.specs.Bits.{_⊕_, bitsAt}
 use Rattle.bits.specs.Tabulate.{tabulate}
 use Rattle.bits.specs.Tabulated.{tabulate-at, tabulate-length, tabulate-same}
 use Rattle.answer.specs.Answer.{accepted, refused}
-use Rattle.block.specs.Block.{Block, preamble, count, subframeNumber, source}
-use Rattle.block.specs.Compare.{Accepted, Conforms, Equal, Inverse}
+use Rattle.block.specs.Block.{Block}
+use Rattle.block.specs.Compare.{Accepted, Equal, Inverse}
 use Rattle.block.specs.Acceptance.{acceptance}
-use Rattle.block.specs.Polarity.{startBit, polarityOf}
-use Rattle.block.specs.Polarities.{startBit-lt, polarity-start}
-use Rattle.block.specs.Source.{source-field}
+use Rattle.block.specs.Polarity.{polarityOf}
+use Rattle.block.specs.Polarities.{polarity-start}
 use Rattle.block.specs.declared.polarity.Polarity.{Polarity}
 use Rattle.block.specs.declared.polarity.Polarity.the-variants.{Upright, Inverted}
-use Rattle.record.specs.Held.{record-header}
-use Rattle.record.specs.Record.{header}
-use Rattle.record.specs.Returned.{record-returned}
-use Rattle.record.specs.Source.{headerIn, recordOf}
-use Rattle.record.specs.Taken.{taken, own-number}
 use Rattle.record.specs.Writable.{writable}
-use Rattle.record.specs.declared.record.Header.{Header}
 use Rattle.record.specs.declared.record.Record.{Record}
 use Rattle.reader.specs.Reading.{reading}
-use Rattle.reader.specs.Readings.{reads, read-accepted, reads-writable, header-number, header-count}
+use Rattle.reader.specs.Readings.{read-accepted, reads-writable}
 use Rattle.reader.specs.SameRecord.{record-unique}
-use Rattle.writer.specs.Written.{messageOf, hasFillers, blockFrom, blockOf, Holds}
+use Rattle.writer.specs.Written.{blockFrom, blockOf, Holds}
 use Rattle.writer.specs.Writing.{writing, bufferAfter}
 use Rattle.writer.specs.Writings.{way-11, way-0, only-11, accepts, after-writing}
-use Rattle.writer.specs.Message.{message-lt, message-preamble, message-header, message-fields}
-use Rattle.writer.specs.Carrying.{carrying-bits, carrying-start, carrying-words, carrying-ends, carrying-source}
-
--- ---- the written block
-
-module _ (r : Record) (polarity : Polarity) (b : Block) (same : Equal b (blockOf r polarity)) where
-  abbrev m : ℕ → ℕ
-  m = messageOf r
-
-  carries : Equal b (blockFrom m (startBit polarity))
-  unfolding blockOf
-  carries = same
-
-  held : (i : ℕ) → (i < 46) ⊎ ((48 ≤ i) × (i < 238)) → getD (source b) i 0 ≡ m i
-  held = carrying-source m (startBit polarity) (message-lt r) (startBit-lt polarity) b carries
-
-  preamble-written : preamble b ≡ 0b10001011
-  unfolding preamble
-  preamble-written =
-      sym (source-field b 1 (omega arith) (omega arith) 1 8 (omega arith) (omega arith))
-      ∙ pack-same 8 (bitsAt (source b) 0) (unpack 8 0b10001011) (λ j h. ap (λ (x : ℕ). x % 2) (at j h))
-      ∙ pack-unpack 8 0b10001011 (omega arith)
-    where
-      at : (j : ℕ) → j < 8 → getD (source b) (0 + j) 0 ≡ unpack 8 0b10001011 j
-      at j h = ap (λ (n : ℕ). getD (source b) n 0) (zero-add j) ∙ held j (inl (omega arith)) ∙ message-preamble r j h
-
-  module _ (h : writable r ≡ true) where
-    record-written : recordOf (source b) ≡ r
-    record-written =
-        record-returned (source b) r h
-        (λ j l. ap (λ (x : ℕ). x % 2) (held (8 + j) (inl (omega arith)) ∙ message-header r j l))
-        (λ j l. ap (λ (x : ℕ). x % 2) (held (48 + j) (inr (omega arith, omega arith)) ∙ message-fields r j l))
-
-    header-written : headerIn (source b) ≡ header r
-    header-written = sym (record-header (source b)) ∙ ap header record-written
-
-    conforms : Conforms b
-    unfolding hasFillers
-    conforms =
-        let number : subframeNumber b ≡ header r .subframe = sym (header-number b) ∙ ap (λ (x : Header). x .subframe) header-written in
-        let total : count b ≡ header r .count = sym (header-count b) ∙ ap (λ (x : Header). x .count) header-written in
-        let range = own-number r (taken r h .of-its-kind) in
-        let a = startBit polarity in
-        let ends = carrying-ends m a (message-lt r) (startBit-lt polarity) b carries in
-        let start = carrying-start m a (message-lt r) (startBit-lt polarity) b carries in
-        record {
-          pair = start .0 ∙ sym (start .1);
-          words = carrying-words m a (message-lt r) (startBit-lt polarity) b carries;
-          preamble-right = preamble-written;
-          ends-2 = ends 2 (omega arith) (omega arith) refl;
-          ends-10 = ends 10 (omega arith) (omega arith) refl;
-          number-low = omega (arith, number, range);
-          number-high = omega (arith, number, range);
-          count-high = omega (arith, total, taken r h .count-high);
-        }
-
-module _ (r : Record) (polarity : Polarity) (h : writable r ≡ true) (s : List ℕ) (p : ℕ) (at : Holds s p (blockOf r polarity)) where
-  -- it is accepted
-  pub written-accepted : Accepted s p
-  unfolding blockOf
-  written-accepted =
-      acceptance s p .1 (
-        record {
-          short = at .short;
-          room = at .room;
-          bits = carrying-bits (messageOf r) (startBit polarity) (message-lt r) (startBit-lt polarity) (bitsAt s p) (at .equal);
-        },
-        conforms r polarity (bitsAt s p) (at .equal) h,
-      )
-
-  -- and reads as the record
-  pub written-reads : reading s p ≡ accepted r
-  written-reads = reads s p written-accepted ∙ ap accepted (record-written r polarity (bitsAt s p) (at .equal) h)
-
--- ---- written again
+use Rattle.writer.specs.WrittenReads.{written-accepted, written-reads}
 
 -- the block alone, as a log
 alone : (b : Block) → Holds (tabulate 302 b) 0 b

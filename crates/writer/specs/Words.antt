@@ -12,10 +12,10 @@ use Rattle.bits.specs.Tests.{or-true}
 use Rattle.parity.specs.Word.{Window, sourceBit, passes}
 use Rattle.parity.specs.Encode.{AreSource, encode, encodeEnding}
 use Rattle.parity.specs.OneWord.{encode-passes, encode-bits, encode-carries}
-use Rattle.parity.specs.Fillers.{ending-bits, ending-passes, ending-pair, ending-source, ending-ends}
+use Rattle.parity.specs.Fillers.{ending}
 use Rattle.block.specs.Block.{window}
 use Rattle.block.specs.Source.{NoFiller}
-use Rattle.writer.specs.Written.{wordSource, hasFillers, wordAfter, windowOf, blockFrom}
+use Rattle.writer.specs.Written.{wordSource, hasFillers, wordAfter, windowFrom, blockFrom}
 
 -- w is word k of a block that carries m from the start pair a, a on, after the bits p and q
 pub record Carried (m : Bits) (a k p q : ℕ) (w : Window) : Type 0 where
@@ -44,67 +44,69 @@ module _ (m : Bits) (a : ℕ) (bits : (i : ℕ) → m i < 2) (start : a < 2) whe
 
       go : (t : Bool) → hasFillers k ≡ t → Carried m a k p q (cond t (encodeEnding p q s a a) (encode p q s))
       go true e =
+          let w = ending p q s hp hq (source-lt k) a a start start in
           record {
-            bits = ending-bits p q s hp hq (source-lt k) a a start start;
-            pass = ending-passes p q s hp hq (source-lt k) a a start start;
-            pairP = ending-pair p q s hp hq (source-lt k) a a start start .0;
-            pairQ = ending-pair p q s hp hq (source-lt k) a a start start .1;
-            source = λ i l h none. ending-source p q s hp hq (source-lt k) a a start start i l (before-fillers k i e none);
-            ends = λ f. ending-ends p q s hp hq (source-lt k) a a start start;
+            bits = w .bits;
+            pass = w .pass;
+            pairP = w .pairP;
+            pairQ = w .pairQ;
+            source = λ i l h none. w .source i l (before-fillers k i e none);
+            ends = λ f. w .ends;
           }
       go false e =
+          let has = encode-carries p q s hp hq (source-lt k) in
           record {
             bits = encode-bits p q s hp hq (source-lt k);
             pass = encode-passes p q s;
-            pairP = encode-carries p q s hp hq (source-lt k) .pairP;
-            pairQ = encode-carries p q s hp hq (source-lt k) .pairQ;
-            source = λ i l h none. encode-carries p q s hp hq (source-lt k) .source i l h;
+            pairP = has .pairP;
+            pairQ = has .pairQ;
+            source = λ i l h none. has .source i l h;
             ends = λ f. absurd (false≢true (sym e ∙ f));
           }
 
   -- window k is word k after the last two bits of window k - 1
-  pub window-lt : (k : ℕ) → AreBits 32 (windowOf m a k)
-  unfolding windowOf
+  pub window-lt : (k : ℕ) → AreBits 32 (windowFrom m a k)
+  unfolding windowFrom
   window-lt zero j h = start
-  window-lt (suc k) j h = carried (suc k) (windowOf m a k 30) (windowOf m a k 31) (window-lt k 30 (lit< tt)) (window-lt k 31 (lit< tt)) .bits j h
+  window-lt (suc k) j h = carried (suc k) (windowFrom m a k 30) (windowFrom m a k 31) (window-lt k 30 (lit< tt)) (window-lt k 31 (lit< tt)) .bits j h
 
-  pub window-carried : (k : ℕ) → Carried m a (suc k) (windowOf m a k 30) (windowOf m a k 31) (windowOf m a (suc k))
-  unfolding windowOf
-  window-carried k = carried (suc k) (windowOf m a k 30) (windowOf m a k 31) (window-lt k 30 (lit< tt)) (window-lt k 31 (lit< tt))
+  pub window-carried : (k : ℕ) → Carried m a (suc k) (windowFrom m a k 30) (windowFrom m a k 31) (windowFrom m a (suc k))
+  unfolding windowFrom
+  window-carried k = carried (suc k) (windowFrom m a k 30) (windowFrom m a k 31) (window-lt k 30 (lit< tt)) (window-lt k 31 (lit< tt))
 
   -- ---- they are the windows of the block
 
   -- bit j of word k, which stands at 2 + j of its window
-  pub word-bit : (k j : ℕ) → j < 30 → blockFrom m a (30 * k + (2 + j)) ≡ windowOf m a (suc k) (2 + j)
+  pub word-bit : (k j : ℕ) → j < 30 → blockFrom m a (30 * k + (2 + j)) ≡ windowFrom m a (suc k) (2 + j)
   unfolding blockFrom
   word-bit k j h =
       let word : 1 + (30 * k + (2 + j) - 2) / 30 ≡ suc k = omega arith in
       let bit : 2 + (30 * k + (2 + j) - 2) % 30 ≡ 2 + j = omega arith in
-      rw (le-ltb (30 * k + (2 + j)) 2 (omega arith)) (ap₂ (windowOf m a) word bit)
+      rw (le-ltb (30 * k + (2 + j)) 2 (omega arith)) (ap₂ (windowFrom m a) word bit)
 
   -- the two bits before word k + 1
-  pair-bit : (k j : ℕ) → j < 2 → blockFrom m a (30 * k + j) ≡ windowOf m a k (30 + j)
-  unfolding blockFrom windowOf
+  pair-bit : (k j : ℕ) → j < 2 → blockFrom m a (30 * k + j) ≡ windowFrom m a k (30 + j)
+  unfolding blockFrom windowFrom
   pair-bit zero j h = rw (lt-ltb (30 * 0 + j) 2 (omega arith))
   pair-bit (suc k) j h =
       let at : 30 * suc k + j ≡ 30 * k + (2 + (28 + j)) = omega arith in
       let bit : 2 + (28 + j) ≡ 30 + j = omega arith in
-      ap (blockFrom m a) at ∙ word-bit k (28 + j) (omega arith) ∙ ap (windowOf m a (suc k)) bit
+      ap (blockFrom m a) at ∙ word-bit k (28 + j) (omega arith) ∙ ap (windowFrom m a (suc k)) bit
 
-  pair-kept : (k j : ℕ) → j < 2 → windowOf m a k (30 + j) ≡ windowOf m a (suc k) j
+  pair-kept : (k j : ℕ) → j < 2 → windowFrom m a k (30 + j) ≡ windowFrom m a (suc k) j
   pair-kept k zero h = sym (window-carried k .pairP)
   pair-kept k (suc zero) h = sym (window-carried k .pairQ)
   pair-kept k (suc (suc j)) h = absurd (omega arith)
 
-  pub block-window : (k : ℕ) → 1 ≤ k → k ≤ 10 → (j : ℕ) → j < 32 → window (blockFrom m a) k j ≡ windowOf m a k j
+  pub block-window : (k : ℕ) → 1 ≤ k → k ≤ 10 → (j : ℕ) → j < 32 → window (blockFrom m a) k j ≡ windowFrom m a k j
   block-window zero l n j h = absurd (omega arith)
   block-window (suc k) l n j h = go (decLt j 2)
     where
-      go : Dec (j < 2) → blockFrom m a (30 * (suc k - 1) + j) ≡ windowOf m a (suc k) j
+      go : Dec (j < 2) → blockFrom m a (30 * (suc k - 1) + j) ≡ windowFrom m a (suc k) j
       go (yes u) =
           let at : 30 * (suc k - 1) + j ≡ 30 * k + j = omega arith in
           ap (blockFrom m a) at ∙ pair-bit k j u ∙ pair-kept k j u
       go (no u) =
           let at : 30 * (suc k - 1) + j ≡ 30 * k + (2 + (j - 2)) = omega arith in
           let bit : 2 + (j - 2) ≡ j = omega arith in
-          ap (blockFrom m a) at ∙ word-bit k (j - 2) (omega arith) ∙ ap (windowOf m a (suc k)) bit
+          ap (blockFrom m a) at ∙ word-bit k (j - 2) (omega arith) ∙ ap (windowFrom m a (suc k)) bit

@@ -14,7 +14,8 @@ use Rattle.block.specs.declared.polarity.Polarity.{Polarity}
 use Rattle.record.specs.Source.{headerBits, recordBits}
 use Rattle.record.specs.declared.record.Record.{Record}
 
--- the 240 source bits of a record, with 0 for the four fillers: preamble, header, and the fields of words 3 to 10
+-- The 240 source bits of a record, with 0 for the fillers (46, 47, 238 and 239): the preamble, from index 8 on the header, from index 48 on the
+-- fields of words 3 to 10.
 unfoldable pub messageOf : Record → Bits
 messageOf r i =
     cond (ltb i 8) (unpack 8 0b10001011 i)
@@ -23,7 +24,7 @@ messageOf r i =
     (cond (ltb i 238) (recordBits r (i - 48))
     0)))
 
--- m is such a message below, and a both bits of the start pair
+-- Below, m is such source bits, and a both bits of the start pair.
 
 -- source bit i of word k
 unfoldable pub wordSource : Bits → ℕ → Bits
@@ -37,14 +38,14 @@ hasFillers k = eqb k 2 || eqb k 10
 unfoldable pub wordAfter : Bits → ℕ → ℕ → ℕ → ℕ → Window
 wordAfter m a k p q = cond (hasFillers k) (encodeEnding p q (wordSource m k) a a) (encode p q (wordSource m k))
 
--- window k: each word is that after the last two bits of the word before, and word 1 that after the start pair
-unfoldable pub windowOf : Bits → ℕ → ℕ → Window
-windowOf m a zero j = a
-windowOf m a (suc k) j = wordAfter m a (suc k) (windowOf m a k 30) (windowOf m a k 31) j
+-- Window k: its word is that after the last two bits of the word before. Before word 1 only these two, the start pair, are looked at.
+unfoldable pub windowFrom : Bits → ℕ → ℕ → Window
+windowFrom m a zero j = a
+windowFrom m a (suc k) j = wordAfter m a (suc k) (windowFrom m a k 30) (windowFrom m a k 31) j
 
 -- the block: the start pair, then bits 1 to 30 of each word
 unfoldable pub blockFrom : Bits → ℕ → Block
-blockFrom m a i = cond (ltb i 2) a (windowOf m a (1 + (i - 2) / 30) (2 + (i - 2) % 30))
+blockFrom m a i = cond (ltb i 2) a (windowFrom m a (1 + (i - 2) / 30) (2 + (i - 2) % 30))
 
 unfoldable pub blockOf : Record → Polarity → Block
 blockOf r polarity = blockFrom (messageOf r) (startBit polarity)

@@ -19,7 +19,7 @@ fn put_header(message: &mut [u8], r: Record)
         message,
         8,
         record::header_widths(),
-        record::header_numbers(r),
+        fields::header_numbers(r),
     );
 }
 
@@ -32,7 +32,7 @@ fn put_fields(message: &mut [u8], r: Record)
         message,
         48,
         record::widths(record::kind_of(r)),
-        record::field_numbers(r),
+        fields::field_numbers(r),
     );
 }
 

@@ -23,7 +23,7 @@ fn start_bit(polarity: Polarity) -> u32
 pub fn write(r: Record, polarity: Polarity, buf: &mut [u8]) -> Checked
     ensures { λ w. ⌜ (checkedAnswer w ≡ writing r (now (buf .entry))) × (now (buf .exit) ≡ bufferAfter r polarity (now (buf .entry))) ⌝ }
 {
-    if !record::writable(r) {
+    if !fields::writable(r) {
         return refused(11, 0);
     }
     if buf.len() < 302 {

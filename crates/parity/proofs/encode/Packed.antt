@@ -2,11 +2,10 @@
 use mathlib.Core.Path.{_≡_, refl, sym, ap, ap₂, _∙_}
 use mathlib.Core.Bool.{cond}
 use Prim.Native.Nat.{ℕ, suc, _+_, _-_, _*_, _/_, _%_, _^_, _<_, _≤_}
-use native.Mathlib.Decide.{ℕ-discrete}
 use native.Mathlib.Nat.{add-zero}
 use native.Mathlib.Omega.{arith}
-use borrow.Author.Tests.{lt-ltb, le-ltb, eq-eqb, ne-eqb}
-use lib.Dec.{ltb, eqb, lit<}
+use borrow.Author.Tests.{lt-ltb, le-ltb}
+use lib.Dec.{ltb, lit<}
 use lib.Pow.{shr-shr}
 use Rattle.bits.specs.Bits.{_⊕_, Bits, pack, unpack}
 use Rattle.bits.specs.Pack.{pack-same, unpack-pack}
@@ -16,6 +15,7 @@ use Rattle.parity.specs.Word.{Window, sourceBit, parityBit, failure, syn
 use Rattle.parity.specs.Encode.{sourceOf, dataBits, encode, withFillers}
 use Rattle.parity.specs.Local.{Agree, line-bit, parityBit-agree}
 use Rattle.parity.specs.OneWord.{encode-data, encode-parity}
+use Rattle.parity.specs.Fillers.{by-fillers, fillers-keep}
 
 zeros : pack 6 (λ k. 0) ≡ 0
 unfolding pack
@@ -100,18 +100,15 @@ data-parts p q n =
 -- ---- the fillers
 
 -- a number of 24 bits with x and y for its last two
-pub with-last : (n x y i : ℕ) → x < 2 → y < 2 → 1 ≤ i → i ≤ 24 → sourceOf (n - n % 4 + x * 2 + y) i ≡ withFillers (sourceOf n) x y i
+pub with-last : (n x y : ℕ) → x < 2 → y < 2 → (i : ℕ) → 1 ≤ i → i ≤ 24 → sourceOf (n - n % 4 + x * 2 + y) i ≡ withFillers (sourceOf n) x y i
 unfolding sourceOf withFillers unpack
-with-last n x y i hx hy l h = go (ℕ-discrete i 23) (ℕ-discrete i 24)
+with-last n x y hx hy = by-fillers (λ i. sourceOf m i ≡ withFillers (sourceOf n) x y i) (λ i l h. before i l h ∙ sym (fillers-keep (sourceOf n) x y i h)) (omega arith) (omega arith)
   where
     m : ℕ
     m = n - n % 4 + x * 2 + y
 
-    go : Dec (i ≡ 23) → Dec (i ≡ 24) → m / 2 ^ (24 - 1 - (i - 1)) % 2 ≡ cond (eqb i 23) x (cond (eqb i 24) y (n / 2 ^ (24 - 1 - (i - 1)) % 2))
-    go (yes e) d = rw (eq-eqb i 23 e, e) (omega arith)
-    go (no u) (yes e) = rw (ne-eqb i 23 u, eq-eqb i 24 e, e) (omega arith)
-    go (no u) (no v) =
+    before : (i : ℕ) → 1 ≤ i → i ≤ 22 → m / 2 ^ (24 - 1 - (i - 1)) % 2 ≡ n / 2 ^ (24 - 1 - (i - 1)) % 2
+    before i l h =
         let quarter : m / 2 ^ 2 ≡ n / 2 ^ 2 = omega arith in
         let split : 2 + (22 - i) ≡ 24 - 1 - (i - 1) = omega arith in
-        rw (ne-eqb i 23 u, ne-eqb i 24 v, ← split)
-        (ap (λ (z : ℕ). z % 2) (sym (shr-shr m 2 (22 - i)) ∙ ap (λ (z : ℕ). z / 2 ^ (22 - i)) quarter ∙ shr-shr n 2 (22 - i)))
+        rw (← split) (ap (λ (z : ℕ). z % 2) (sym (shr-shr m 2 (22 - i)) ∙ ap (λ (z : ℕ). z / 2 ^ (22 - i)) quarter ∙ shr-shr n 2 (22 - i)))

@@ -16,7 +16,7 @@ filled : (p q n x y : ℕ) → x < 2 → y < 2 → pack 32 (encode p q (sourceOf
 filled p q n x y hx hy =
     let m = n - n % 4 + x * 2 + y in
     pack-same 32 (encode p q (sourceOf m)) (encode p q (withFillers (sourceOf n) x y))
-    (λ j h. ap (λ (z : ℕ). z % 2) (encode-same p q (sourceOf m) (withFillers (sourceOf n) x y) (λ i l u. with-last n x y i hx hy l u) j h))
+    (λ j h. ap (λ (z : ℕ). z % 2) (encode-same p q (sourceOf m) (withFillers (sourceOf n) x y) (with-last n x y hx hy) j h))
 
 -- the fillers by the last two bits u and v of the word with fillers 0
 by-24 : (w u a : ℕ) → w / 2 % 2 ≡ u % 2 → (w / 2 + a % 2) % 2 ≡ u ⊕ a

@@ -10,7 +10,7 @@ use Rattle.bits.specs.Bits.{Bits, bitsAt, pack, unpack}
 use Rattle.bits.specs.Pack.{pack-last, unpack-pack}
 use Rattle.writer.specs.Put.{Put}
 use Rattle.writer.specs.Puts.{put-none, put-more}
-use Rattle.writer.specs.Written.{wordAfter, windowOf, blockFrom}
+use Rattle.writer.specs.Written.{wordAfter, windowFrom, blockFrom}
 use Rattle.writer.specs.Words.{window-lt, word-bit}
 use Rattle.writer.proofs.words.put_block.Statement.{statement}
 use Rattle.writer.proofs.words.put_block.Tie as tie
@@ -30,22 +30,22 @@ start-pair m a h (suc zero) l = omega (arith, three a h .1)
 start-pair m a h (suc (suc j)) l = absurd (omega arith)
 
 module _ (m : Bits) (bits : (i : ℕ) → m i < 2) (a : ℕ) (start : a < 2) (k before w : ℕ)
-    (p : before / 2 % 2 ≡ windowOf m a k 30) (q : before % 2 ≡ windowOf m a k 31)
+    (p : before / 2 % 2 ≡ windowFrom m a k 30) (q : before % 2 ≡ windowFrom m a k 31)
     (e : w ≡ pack 32 (wordAfter m a (k + 1) (before / 2 % 2) (before % 2)))
   where
     -- the word that is written is that of window k + 1
-    is-window : w ≡ pack 32 (windowOf m a (suc k))
-    unfolding windowOf
+    is-window : w ≡ pack 32 (windowFrom m a (suc k))
+    unfolding windowFrom
     is-window = e ∙ (λ t. pack 32 (wordAfter m a (add-one k t) (p t) (q t)))
 
-    bit : (j : ℕ) → j < 32 → windowOf m a (suc k) j % 2 ≡ windowOf m a (suc k) j
+    bit : (j : ℕ) → j < 32 → windowFrom m a (suc k) j % 2 ≡ windowFrom m a (suc k) j
     bit j h = mod-eq-of-lt (window-lt m a bits start (suc k) j h)
 
-    next-p : w / 2 % 2 ≡ windowOf m a (k + 1) 30
-    next-p = ap (λ (x : ℕ). x / 2 % 2) is-window ∙ pack-last 30 (windowOf m a (suc k)) .0 ∙ bit 30 (lit< tt) ∙ ap (λ (x : ℕ). windowOf m a x 30) (sym (add-one k))
+    next-p : w / 2 % 2 ≡ windowFrom m a (k + 1) 30
+    next-p = ap (λ (x : ℕ). x / 2 % 2) is-window ∙ pack-last 30 (windowFrom m a (suc k)) .0 ∙ bit 30 (lit< tt) ∙ ap (λ (x : ℕ). windowFrom m a x 30) (sym (add-one k))
 
-    next-q : w % 2 ≡ windowOf m a (k + 1) 31
-    next-q = ap (λ (x : ℕ). x % 2) is-window ∙ pack-last 30 (windowOf m a (suc k)) .1 ∙ bit 31 (lit< tt) ∙ ap (λ (x : ℕ). windowOf m a x 31) (sym (add-one k))
+    next-q : w % 2 ≡ windowFrom m a (k + 1) 31
+    next-q = ap (λ (x : ℕ). x % 2) is-window ∙ pack-last 30 (windowFrom m a (suc k)) .1 ∙ bit 31 (lit< tt) ∙ ap (λ (x : ℕ). windowFrom m a x 31) (sym (add-one k))
 
     -- and its 30 bits are the block's after those of the words before
     written : (j : ℕ) → j < 30 → unpack 30 w j ≡ blockFrom m a (2 + (30 * k + j))
@@ -55,7 +55,7 @@ module _ (m : Bits) (bits : (i : ℕ) → m i < 2) (a : ℕ) (start : a < 2) (k 
         let place : 30 * k + (2 + j) ≡ 2 + (30 * k + j) = omega arith in
         ap (λ (x : ℕ). w / 2 ^ x % 2) digit
         ∙ ap (λ (x : ℕ). unpack 32 x (2 + j)) is-window
-        ∙ unpack-pack 32 (windowOf m a (suc k)) (2 + j) (omega arith)
+        ∙ unpack-pack 32 (windowFrom m a (suc k)) (2 + j) (omega arith)
         ∙ bit (2 + j) (omega arith)
         ∙ sym (word-bit m a bits start k j h)
         ∙ ap (blockFrom m a) place
@@ -64,7 +64,7 @@ module _ (m : Bits) (bits : (i : ℕ) → m i < 2) (a : ℕ) (start : a < 2) (k 
 
 abbrev Inv-loop : tie.InvT-loop
 Inv-loop buf₀ message a window₀ k₀ buf window k =
-    (k ≤ 10) × (window / 2 % 2 ≡ windowOf (bitsAt message 0) a k 30) × (window % 2 ≡ windowOf (bitsAt message 0) a k 31)
+    (k ≤ 10) × (window / 2 % 2 ≡ windowFrom (bitsAt message 0) a k 30) × (window % 2 ≡ windowFrom (bitsAt message 0) a k 31)
     × Put buf₀ 2 (30 * k) (λ j. blockFrom (bitsAt message 0) a (2 + j)) buf
 
 abbrev μ-loop : tie.MeasureT-loop
@@ -74,7 +74,7 @@ put-number-requires : tie.Need-put-number-requires Inv-loop μ-loop
 put-number-requires c κs = (omega (arith, c .before .before .pre .0), omega arith)
 
 loop-holds : tie.Need-loop-holds Inv-loop μ-loop
-unfolding windowOf
+unfolding windowFrom
 loop-holds c =
     let s = c .before .before .before .before .before in
     let start = three (s .args .a) (s .pre .1 .0) in

@@ -53,7 +53,8 @@ returns c =
     let s = c .before .before .before .before .before in
     let a = s .args in
     let window = c .before .before .before .packed-window in
-    c .encode-ending .ensures
+    let word : c .encode-ending .result ≡ pack 32 (encodeEnding (a .before / 2 % 2) (a .before % 2) (sourceOf (window .result / 0x100)) (a .a) (a .a)) = c .encode-ending .ensures in
+    word
     ∙ ending (a .message .now) (s .pre .1 .1) (a .k) (window .result) (window .ensures) (a .a) (a .before / 2 % 2) (a .before % 2)
     (sym (c .before .before .has-fillers .ensures) ∙ c .before .if1 .taken)
 
@@ -62,7 +63,8 @@ returns-2 c =
     let s = c .before .before .before .before .before in
     let a = s .args in
     let window = c .before .before .before .packed-window in
-    c .encode-word .ensures
+    let word : c .encode-word .result ≡ pack 32 (encode (a .before / 2 % 2) (a .before % 2) (sourceOf (window .result / 0x100))) = c .encode-word .ensures in
+    word
     ∙ plain (a .message .now) (s .pre .1 .1) (a .k) (window .result) (window .ensures) (a .a) (a .before / 2 % 2) (a .before % 2)
     (sym (c .before .before .has-fillers .ensures) ∙ c .before .if1 .left)
 
