@@ -14,6 +14,7 @@ pub enum Checked {
     Refused(Refusal),
 }
 
+// The answer with this number and detail.
 pub fn refused(number: u8, detail: usize) -> Checked
     ensures { λ r. ⌜ Answer.checkedAnswer r ≡ Answer.refused number detail ⌝ }
 {

@@ -87,7 +87,7 @@ module _ (p q : ℕ) (s : Bits) (x y : ℕ) where
   unfolding filler23 filler24
   fillers hx hy a b ha hb = (
     λ e. (
-      rw (← e .1, ← e .0, bit30, bit29) (omega arith),
+      rw (← e .1, ← e .0, bit30, bit29) (first-back (encode p q (withFillers s 0 0) 30) (encode p q (withFillers s 0 0) 31) x y hx hy),
       rw (← e .0, bit29) (omega arith),
     ),
     λ e. (
@@ -96,6 +96,9 @@ module _ (p q : ℕ) (s : Bits) (x y : ℕ) where
     ),
   )
     where
+      first-back : (c d x y : ℕ) → x < 2 → y < 2 → x ≡ (d ⊕ (d ⊕ (x ⊕ y))) ⊕ (c ⊕ (c ⊕ y))
+      first-back c d x y hx hy = omega arith
+
       bit29 : encode p q (withFillers s x y) 30 ≡ encode p q (withFillers s 0 0) 30 ⊕ y
       bit29 = split 4 (lit< tt) ∙ ap (λ (z : ℕ). encode p q (withFillers s 0 0) 30 ⊕ z) (share-29 x y hx hy)
 

@@ -35,7 +35,7 @@ fn same_block(a: &[u8], b: &[u8]) -> bool
     true
 }
 
-// Whether the record that was read at p, written with the block's polarity, is the block. It is.
+// Whether the record that was read at p, written with the block's polarity, is the block. The contract says that it always is.
 fn comes_back(log: &[u8], p: usize, r: Record) -> bool
     requires { ⌜ reading (now log) p ≡ accepted r ⌝ }
     ensures { λ t. ⌜ t ≡ true ⌝ }

@@ -18,6 +18,7 @@ use Rattle.block.specs.Windows.{by-windows}
 use Rattle.writer.specs.Written.{wordSource, hasFillers, windowFrom, blockFrom}
 use Rattle.writer.specs.Words.{window-lt, window-carried, block-window}
 
+-- what holds of a block b that carries the source bits m from the start pair a, a on
 pub record Carrying (m : Bits) (a : ℕ) (b : Block) : Type 0 where
   pub bits : AreBits 302 b
   pub start : (b 0 ≡ a) × (b 1 ≡ a)

@@ -60,6 +60,9 @@ module _ (m : Bits) (bits : (i : ℕ) → m i < 2) (a : ℕ) (start : a < 2) (k 
         ∙ sym (word-bit m a bits start k j h)
         ∙ ap (blockFrom m a) place
 
+    turn : (w / 2 % 2 ≡ windowFrom m a (k + 1) 30) × (w % 2 ≡ windowFrom m a (k + 1) 31) × ((j : ℕ) → j < 30 → unpack 30 w j ≡ blockFrom m a (2 + (30 * k + j)))
+    turn = (next-p, next-q, written)
+
 -- ---- the function
 
 abbrev Inv-loop : tie.InvT-loop
@@ -97,6 +100,7 @@ loop-again c =
     let m = bitsAt (s .args .message .now) 0 in
     let bits : (i : ℕ) → m i < 2 = s .pre .1 .1 in
     let word = c .before .before .before .before .word-after in
+    let next = turn m bits (s .args .a) (s .pre .1 .0) (l .k) (l .window) (word .result) (l .inv .1) (l .inv .2) (word .ensures) in
     let place : 30 * l .k + 2 ≡ 2 + 30 * l .k = omega arith in
     let size : 30 * l .k + 30 ≡ 30 * (l .k + 1) = omega arith in
     let block : Bits = λ j. blockFrom m (s .args .a) (2 + j) in
@@ -105,10 +109,10 @@ loop-again c =
     let one : Put (l .buf) (2 + 30 * l .k) 30 (unpack 30 (word .result)) buf =
     subst (λ (x : ℕ). Put (l .buf) x 30 (unpack 30 (word .result)) buf) place (c .before .before .put-number2 .ensures) in (
       omega arith,
-      next-p m bits (s .args .a) (s .pre .1 .0) (l .k) (l .window) (word .result) (l .inv .1) (l .inv .2) (word .ensures),
-      next-q m bits (s .args .a) (s .pre .1 .0) (l .k) (l .window) (word .result) (l .inv .1) (l .inv .2) (word .ensures),
+      next .0,
+      next .1,
       subst (λ (x : ℕ). Put start 2 x block buf) size
-          (put-more (l .inv .3) one (written m bits (s .args .a) (s .pre .1 .0) (l .k) (l .window) (word .result) (l .inv .1) (l .inv .2) (word .ensures))),
+          (put-more (l .inv .3) one (next .2)),
     )
 
 same-length : tie.Need-same-length Inv-loop μ-loop
