@@ -12,10 +12,9 @@ use Rattle.bits.specs.Bits.{_⊕_, bitsAt}
 use Rattle.bits.specs.Tabulate.{tabulate}
 use Rattle.bits.specs.Tabulated.{tabulate-at, tabulate-length, tabulate-same}
 use Rattle.answer.specs.Answer.{accepted, refused}
-use Rattle.block.specs.Block.{Block}
 use Rattle.block.specs.Compare.{Accepted, Equal, Inverse}
 use Rattle.block.specs.Acceptance.{acceptance}
-use Rattle.block.specs.Polarity.{polarityOf}
+use Rattle.block.specs.Polarity.{startBit, polarityOf}
 use Rattle.block.specs.Polarities.{polarity-start}
 use Rattle.block.specs.declared.polarity.Polarity.{Polarity}
 use Rattle.block.specs.declared.polarity.Polarity.the-variants.{Upright, Inverted}
@@ -29,29 +28,35 @@ use Rattle.writer.specs.Writing.{writing, bufferAfter}
 use Rattle.writer.specs.Writings.{way-11, way-0, only-11, accepts, after-writing}
 use Rattle.writer.specs.WrittenReads.{written-accepted, written-reads}
 
--- the block alone, as a log
-alone : (b : Block) → Holds (tabulate 302 b) 0 b
-alone b =
-    record {
-      short = omega (arith, tabulate-length 302 b);
-      room = omega (arith, tabulate-length 302 b);
-      equal = λ i h. ap (λ (n : ℕ). getD (tabulate 302 b) n 0) (zero-add i) ∙ tabulate-at 302 b i h;
-    }
+-- the block of a record that the writer takes, alone in a log
+module _ (r : Record) (h : writable r ≡ true) (a : Polarity) where
+  abbrev log : List ℕ
+  log = tabulate 302 (blockOf r a)
+
+  stands : Holds log 0 (blockOf r a)
+  stands =
+      record {
+        short = omega (arith, tabulate-length 302 (blockOf r a));
+        room = omega (arith, tabulate-length 302 (blockOf r a));
+        equal = λ i l. ap (λ (n : ℕ). getD log n 0) (zero-add i) ∙ tabulate-at 302 (blockOf r a) i l;
+      }
+
+  log-accepted : Accepted log 0
+  log-accepted = written-accepted r a h log 0 stands
+
+  log-reads : reading log 0 ≡ accepted r
+  log-reads = written-reads r a h log 0 stands
+
+  log-start : bitsAt log 0 0 ≡ startBit a
+  unfolding blockOf blockFrom
+  log-start = stands .equal 0 (omega arith)
 
 -- a block that reads as a record is the record's at its own polarity
 pub read-written : (s : List ℕ) (p : ℕ) (r : Record) → reading s p ≡ accepted r → Equal (bitsAt s p) (blockOf r (polarityOf (bitsAt s p)))
-unfolding blockOf blockFrom
-read-written s p r e =
-    go (record-unique s log p 0 taken-in (written-accepted r polarity h log 0 (alone written)) .0 (e ∙ sym (written-reads r polarity h log 0 (alone written))))
+read-written s p r e = go (record-unique s (log r h a) p 0 taken-in (log-accepted r h a) .0 (e ∙ sym (log-reads r h a)))
   where
-    polarity : Polarity
-    polarity = polarityOf (bitsAt s p)
-
-    written : Block
-    written = blockOf r polarity
-
-    log : List ℕ
-    log = tabulate 302 written
+    a : Polarity
+    a = polarityOf (bitsAt s p)
 
     h : writable r ≡ true
     h = reads-writable s p r e
@@ -62,10 +67,9 @@ read-written s p r e =
     first : bitsAt s p 0 < 2
     first = acceptance s p .0 taken-in .0 .bits 0 (omega arith)
 
-    go : Equal (bitsAt s p) (bitsAt log 0) ⊎ Inverse (bitsAt s p) (bitsAt log 0) → Equal (bitsAt s p) written
-    go (inl same) i l = same i l ∙ alone written .equal i l
-    go (inr swapped) i l =
-        absurd (omega (arith, swapped 0 (omega arith), alone written .equal 0 (omega arith), polarity-start (bitsAt s p) first, first))
+    go : Equal (bitsAt s p) (bitsAt (log r h a) 0) ⊎ Inverse (bitsAt s p) (bitsAt (log r h a) 0) → Equal (bitsAt s p) (blockOf r a)
+    go (inl same) i l = same i l ∙ stands r h a .equal i l
+    go (inr swapped) i l = absurd (omega (arith, swapped 0 (omega arith), log-start r h a, polarity-start (bitsAt s p) first, first))
 
 -- so it is the only accepted block of its polarity that reads as the record
 pub one-block : (s : List ℕ) (p : ℕ) (r : Record) (polarity : Polarity) → reading s p ≡ accepted r → polarityOf (bitsAt s p) ≡ polarity
@@ -74,26 +78,15 @@ one-block s p r polarity e q = subst (λ (x : Polarity). Equal (bitsAt s p) (blo
 
 -- and the other polarity's block is its inverse
 pub polarities-inverse : (r : Record) → writable r ≡ true → Inverse (blockOf r Upright) (blockOf r Inverted)
-unfolding blockOf blockFrom
 polarities-inverse r h =
     go
-    (record-unique (log Upright) (log Inverted) 0 0 (accepts-it Upright) (accepts-it Inverted) .0
-    (written-reads r Upright h (log Upright) 0 (stands Upright) ∙ sym (written-reads r Inverted h (log Inverted) 0 (stands Inverted))))
+    (record-unique (log r h Upright) (log r h Inverted) 0 0 (log-accepted r h Upright) (log-accepted r h Inverted) .0
+    (log-reads r h Upright ∙ sym (log-reads r h Inverted)))
   where
-    log : Polarity → List ℕ
-    log a = tabulate 302 (blockOf r a)
-
-    stands : (a : Polarity) → Holds (log a) 0 (blockOf r a)
-    stands a = alone (blockOf r a)
-
-    accepts-it : (a : Polarity) → Accepted (log a) 0
-    accepts-it a = written-accepted r a h (log a) 0 (stands a)
-
-    go : Equal (bitsAt (log Upright) 0) (bitsAt (log Inverted) 0) ⊎ Inverse (bitsAt (log Upright) 0) (bitsAt (log Inverted) 0)
+    go : Equal (bitsAt (log r h Upright) 0) (bitsAt (log r h Inverted) 0) ⊎ Inverse (bitsAt (log r h Upright) 0) (bitsAt (log r h Inverted) 0)
         → Inverse (blockOf r Upright) (blockOf r Inverted)
-    go (inl same) i l = absurd (omega (arith, same 0 (omega arith), stands Upright .equal 0 (omega arith), stands Inverted .equal 0 (omega arith)))
-    go (inr swapped) i l =
-        sym (stands Inverted .equal i l) ∙ swapped i l ∙ ap (λ (x : ℕ). x ⊕ 1) (stands Upright .equal i l)
+    go (inl same) i l = absurd (omega (arith, same 0 (omega arith), log-start r h Upright, log-start r h Inverted))
+    go (inr swapped) i l = sym (stands r h Inverted .equal i l) ∙ swapped i l ∙ ap (λ (x : ℕ). x ⊕ 1) (stands r h Upright .equal i l)
 
 -- ---- number 11
 
@@ -106,7 +99,7 @@ number-11 r buffer = (
   where
     go : (t : Bool) → writable r ≡ t → ((s : List ℕ) (p : ℕ) → reading s p ≡ accepted r → ⊥) → t ≡ false
     go false h none = refl
-    go true h none = absurd (none (tabulate 302 (blockOf r Upright)) 0 (written-reads r Upright h (tabulate 302 (blockOf r Upright)) 0 (alone (blockOf r Upright))))
+    go true h none = absurd (none (log r h Upright) 0 (log-reads r h Upright))
 
 -- ---- the buffer that the writer leaves
 
