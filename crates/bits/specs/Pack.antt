@@ -33,6 +33,9 @@ unfolding pack
 pack-same zero u v h = refl
 pack-same (suc n) u v h = ap₂ (λ (x y : ℕ). x * 2 + y) (pack-same n u v (λ j l. h j (omega arith))) (h n (omega arith))
 
+pub pack-equal : (n : ℕ) (u v : Bits) → ((j : ℕ) → j < n → u j ≡ v j) → pack n u ≡ pack n v
+pack-equal n u v h = pack-same n u v (λ j l. ap (λ (x : ℕ). x % 2) (h j l))
+
 pub pack-xor : (n : ℕ) (u v : Bits) → pack n (xor u v) ≡ bitXor (pack n u) (pack n v)
 unfolding pack
 pack-xor zero u v = refl

@@ -9,7 +9,7 @@ use borrow.Author.Tests.{eq-eqb, ne-eqb}
 use lib.Dec.{eqb}
 use lib.ListN.{length}
 use Rattle.bits.specs.Bits.{_⊕_, AreBits, Same, bitsAt, inverse}
-use Rattle.bits.specs.Pack.{pack-same}
+use Rattle.bits.specs.Pack.{pack-equal}
 use Rattle.parity.specs.Word.{sourceBit}
 use Rattle.parity.specs.Local.{syndrome-local}
 use Rattle.parity.specs.Inverse.{syndrome-inverse, sourceBit-inverse}
@@ -33,8 +33,8 @@ module _ (b c : Block) (swapped : Inverse b c) where
   inverse-field : (k : ℕ) → 1 ≤ k → k ≤ 10 → (i n : ℕ) → 1 ≤ i → i + n ≤ 25 → field c k i n ≡ field b k i n
   unfolding field
   inverse-field k l h i n m u =
-      pack-same n (λ j. sourceBit (window c k) (i + j)) (λ j. sourceBit (window b k) (i + j))
-      (λ j v. ap (λ (x : ℕ). x % 2) (sym (inverse-words k l h (i + j) (omega arith) (omega arith))))
+      pack-equal n (λ j. sourceBit (window c k) (i + j)) (λ j. sourceBit (window b k) (i + j))
+      (λ j v. sym (inverse-words k l h (i + j) (omega arith) (omega arith)))
 
   module _ (bits : AreBits 302 b) where
     equal-same : (i j : ℕ) → i < 302 → j < 302 → eqb (c i) (c j) ≡ eqb (b i) (b j)

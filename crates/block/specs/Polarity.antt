@@ -11,6 +11,6 @@ abbrev pub startBit : Polarity → ℕ
 startBit Upright = 0
 startBit Inverted = 1
 
--- the polarity of a block whose start pair is equal
+-- the polarity of a block, by the first bit of its start pair
 unfoldable pub polarityOf : Block → Polarity
 polarityOf b = cond (eqb (b 0 % 2) 0) Upright Inverted

@@ -6,7 +6,7 @@ use Prim.Native.Nat.{ℕ, _+_, _-_, _*_, _/_, _%_, _<_, _≤_}
 use native.Mathlib.Omega.{arith}
 use lib.ListN.{getD}
 use Rattle.bits.specs.Bits.{_⊕_, bitsAt, pack}
-use Rattle.bits.specs.Pack.{pack-same}
+use Rattle.bits.specs.Pack.{pack-equal}
 use Rattle.bits.specs.Tabulated.{tabulate-same, tabulate-at}
 use Rattle.parity.specs.Word.{sourceBit}
 use Rattle.block.specs.Block.{Block, window, field, source}
@@ -42,10 +42,10 @@ source-bit b i h =
 pub source-field : (b : Block) (k : ℕ) → 1 ≤ k → k ≤ 10 → (i n : ℕ) → 1 ≤ i → i + n ≤ 25 → pack n (bitsAt (source b) (24 * (k - 1) + (i - 1))) ≡ field b k i n
 unfolding field
 source-field b k l h i n m u =
-    pack-same n (bitsAt (source b) (24 * (k - 1) + (i - 1))) (λ j. sourceBit (window b k) (i + j))
+    pack-equal n (bitsAt (source b) (24 * (k - 1) + (i - 1))) (λ j. sourceBit (window b k) (i + j))
     (λ j v.
     let at : 24 * (k - 1) + (i - 1) + j ≡ 24 * (k - 1) + (i + j - 1) = omega arith in
-    ap (λ (x : ℕ). x % 2) (ap (λ (x : ℕ). getD (source b) x 0) at ∙ source-at b k l h (i + j) (omega arith) (omega arith)))
+    ap (λ (x : ℕ). getD (source b) x 0) at ∙ source-at b k l h (i + j) (omega arith) (omega arith))
 
 pub source-words : (b c : Block) → (source b ≡ source c) ↔ SameWords b c
 unfolding source

@@ -7,7 +7,7 @@ use Rattle.bits.specs.Bits.{_⊕_, Bits, unpack}
 use Rattle.parity.specs.Table.{line}
 use Rattle.parity.specs.Word.{Window, receivedBit, sourceBit, parityBit}
 
--- source bits 1 to 24 are s 1 to s 24
+-- s 1 to s 24 are source bits: each is 0 or 1
 abbrev pub AreSource : Bits → Type 0
 AreSource s = (i : ℕ) → 1 ≤ i → i ≤ 24 → s i < 2
 

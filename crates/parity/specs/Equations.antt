@@ -1,13 +1,13 @@
 -- Laws. A word passes exactly when bits 25 to 30 are each the exclusive-or that the table states.
-use mathlib.Core.Path.{_≡_, sym, ap, _∙_}
+use mathlib.Core.Path.{_≡_, sym, _∙_}
 use mathlib.Core.Bool.{true, false}
 use mathlib.Core.Logic.{_↔_}
-use Prim.Native.Nat.{ℕ, suc, _%_, _<_}
+use Prim.Native.Nat.{ℕ, suc, _<_}
 use native.Mathlib.Nat.{mod-eq-of-lt}
 use native.Mathlib.Omega.{arith}
 use borrow.Author.Tests.{eq-eqb, ne-eqb, eqb-true}
 use Rattle.bits.specs.Bits.{AreBits, pack}
-use Rattle.bits.specs.Pack.{pack-same, pack-zero}
+use Rattle.bits.specs.Pack.{pack-equal, pack-zero}
 use Rattle.parity.specs.Table.{Equation, line}
 use Rattle.parity.specs.Word.{Window, receivedBit, parityBit, failure, syndrome, passes}
 use Rattle.parity.specs.Local.{line-bit}
@@ -21,7 +21,7 @@ pub syndrome-zero : (w : Window) → (syndrome w ≡ 0) ↔ ((k : ℕ) → k < 6
 unfolding syndrome pack
 syndrome-zero w = (
   λ e k h. sym (mod-eq-of-lt (failure-lt w (line k))) ∙ pack-zero 6 (λ i. failure w (line i)) e k h,
-  λ f. pack-same 6 (λ k. failure w (line k)) (λ k. 0) (λ k h. ap (λ (x : ℕ). x % 2) (f k h)),
+  pack-equal 6 (λ k. failure w (line k)) (λ k. 0),
 )
 
 pub passes-syndrome : (w : Window) → (passes w ≡ true) ↔ (syndrome w ≡ 0)

@@ -1,11 +1,11 @@
 -- Laws. The equations and the syndrome are linear in the window.
 use mathlib.Core.Path.{_≡_, refl, ap, ap₂, _∙_}
 use mathlib.Core.List.{List, [], _∷_}
-use Prim.Native.Nat.{ℕ, _%_}
+use Prim.Native.Nat.{ℕ}
 use lib.Bits.{bitXor}
 use Rattle.bits.specs.Bits.{_⊕_, xor}
 use Rattle.bits.specs.Xor.{interchange}
-use Rattle.bits.specs.Pack.{pack-same, pack-xor}
+use Rattle.bits.specs.Pack.{pack-equal, pack-xor}
 use Rattle.parity.specs.Table.{PairBit, P, Q, Equation, line}
 use Rattle.parity.specs.Word.{Window, pairBit, receivedBit, sourceBit, sourceSum, parityBit, failure, syndrome}
 
@@ -39,6 +39,5 @@ failure-linear u v e =
 pub syndrome-linear : (u v : Window) → syndrome (xor u v) ≡ bitXor (syndrome u) (syndrome v)
 unfolding syndrome
 syndrome-linear u v =
-    pack-same 6 (λ k. failure (xor u v) (line k)) (xor (λ k. failure u (line k)) (λ k. failure v (line k)))
-    (λ k h. ap (λ (x : ℕ). x % 2) (failure-linear u v (line k)))
+    pack-equal 6 (λ k. failure (xor u v) (line k)) (xor (λ k. failure u (line k)) (λ k. failure v (line k))) (λ k h. failure-linear u v (line k))
     ∙ pack-xor 6 (λ k. failure u (line k)) (λ k. failure v (line k))

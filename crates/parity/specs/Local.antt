@@ -9,7 +9,7 @@ use Rattle.bits.specs.Bits.{_⊕_, Same, pack, unpack}
 use Rattle.bits.specs.Every.{everyBelow}
 use Rattle.bits.specs.Tests.{and-left, and-right, everyBelow-at, equal-below}
 use Rattle.bits.specs.Xor.{odd-only}
-use Rattle.bits.specs.Pack.{pack-same, unpack-pack}
+use Rattle.bits.specs.Pack.{pack-equal, unpack-pack}
 use Rattle.parity.specs.Table.{PairBit, P, Q, table, line}
 use Rattle.parity.specs.Word.{Window, pairBit, receivedBit, sourceBit, sourceSum, parityBit, failure, syndrome, passes}
 
@@ -79,7 +79,7 @@ module _ (u v : Window) (same : Same 32 u v) where
 
   pub syndrome-local : syndrome u ≡ syndrome v
   unfolding syndrome
-  syndrome-local = pack-same 6 (λ k. failure u (line k)) (λ k. failure v (line k)) (λ k h. ap (λ (x : ℕ). x % 2) (failure-local k h))
+  syndrome-local = pack-equal 6 (λ k. failure u (line k)) (λ k. failure v (line k)) failure-local
 
   pub passes-local : passes u ≡ passes v
   unfolding passes

@@ -1,6 +1,6 @@
 // The encoder: the word for a pair and 24 source bits, as a packed window. Of a number that stands for a bit only whether it is odd counts,
 // and of one that stands for source bits the lowest 24 digits.
-use crate::source::by_q;
+use crate::source::exclusive_or_q;
 use crate::syndrome::syndrome_of;
 ghost use mathlib.Core.Path.{_≡_};
 ghost use Prim.Native.Nat.{_*_};
@@ -11,7 +11,7 @@ ghost use Rattle.parity.specs.Encode.{sourceOf, dataBits, encode, encode
 fn data_window(p: u32, q: u32, source: u32) -> u32
     ensures { λ r. ⌜ r ≡ pack 26 (dataBits p q (sourceOf source)) * 64 ⌝ }
 {
-    p % 2 * 0x80000000 + q % 2 * 0x40000000 + by_q(q, source) * 0x40
+    p % 2 * 0x80000000 + q % 2 * 0x40000000 + exclusive_or_q(q, source) * 0x40
 }
 
 // The word for the pair p, q and the source bits.

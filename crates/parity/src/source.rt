@@ -4,9 +4,8 @@ ghost use Prim.Native.Nat.{_<_};
 ghost use Rattle.bits.specs.Bits.{_⊕_, pack, unpack};
 ghost use Rattle.parity.specs.Word.{sourceBits};
 
-// 24 bits, the lowest digits of a number, each exclusive-or q: 0 and 1 are swapped where q is odd. By Q received bits become source bits, and
-// source bits received ones.
-pub(crate) fn by_q(q: u32, bits: u32) -> u32
+// The 24 lowest digits of a number, each exclusive-or q. By Q received bits become source bits, and source bits received ones.
+pub(crate) fn exclusive_or_q(q: u32, bits: u32) -> u32
     ensures { λ r. ⌜ (r ≡ pack 24 (λ i. unpack 24 bits i ⊕ q)) × (r < 0x1000000) ⌝ }
 {
     if q % 2 == 1 {
@@ -19,5 +18,5 @@ pub(crate) fn by_q(q: u32, bits: u32) -> u32
 pub fn source_bits(window: u32) -> u32
     ensures { λ r. ⌜ r ≡ sourceBits (unpack 32 window) ⌝ }
 {
-    by_q(window / 0x40000000, window / 0x40)
+    exclusive_or_q(window / 0x40000000, window / 0x40)
 }

@@ -1,57 +1,30 @@
 -- Laws. A record that the writer takes is the record of any source bits that hold the bits of its header and of its fields.
 use mathlib.Core.Path.{_≡_, refl, sym, ap, ap₂, _∙_}
-use mathlib.Core.Bool.{true, not, cond, _&&_}
+use mathlib.Core.Bool.{true}
 use mathlib.Core.List.{List}
-use mathlib.Core.Logic.{_⊎_, ⊎-elim}
 use Prim.Native.Nat.{ℕ, _+_, _*_, _/_, _%_, _<_}
 use native.Mathlib.Omega.{arith}
-use borrow.Author.Tests.{eqb-true, lt-ltb, not-true}
-use lib.Dec.{eqb}
+use borrow.Author.Tests.{eqb-true, lt-ltb}
 use lib.IntN.{ℤ}
 use lib.ListN.{getD}
-use Rattle.bits.specs.Tests.{and-true}
 use Rattle.layout.specs.Field.{signed, unsigned, readField}
 use Rattle.layout.specs.Signs.{signed-unsigned, unsigned-within}
 use Rattle.layout.specs.Fields.{unsigned-lt}
 use Rattle.layout.specs.Layout.{decode, allWithin}
 use Rattle.layout.specs.Layouts.{each-within, decode-encode}
-use Rattle.record.specs.Kind.{isPage, isAlmanac, isUtc, isOther, kindFor}
+use Rattle.record.specs.Kind.{kindFor}
 use Rattle.record.specs.Fields.{headerFields, fieldsOf, almanacFields}
 use Rattle.record.specs.Record.{headerOf, joined, recordWith, kindOf, header, headerValues, almanacValues, fieldValues}
 use Rattle.record.specs.Sound.{header-sound, fields-sound}
 use Rattle.record.specs.Source.{headerIn, dataIdIn, idIn, kindIn, recordOf, headerBits, recordBits}
-use Rattle.record.specs.Taken.{taken, page-number, almanac-page}
+use Rattle.record.specs.Kinds.{kind-almanac, kind-utc, kind-other}
+use Rattle.record.specs.Taken.{taken}
 use Rattle.record.specs.Writable.{ofItsKind, writable}
 use Rattle.record.specs.declared.kind.Kind.{Kind}
-use Rattle.record.specs.declared.kind.Kind.the-variants as K
 use Rattle.record.specs.declared.record.Header.{Header}
 use Rattle.record.specs.declared.record.AlmanacPage.{AlmanacPage}
 use Rattle.record.specs.declared.record.Record.{Record}
 use Rattle.record.specs.declared.record.Record.the-variants as R
-
--- ---- the kind that the reader chooses is the record's
-
--- subframes 4 and 5 are told apart by their IDs alone
-page-kind : (n d i : ℕ) → isPage n ≡ true → kindFor n d i ≡ cond (isAlmanac n d i) K.Almanac (cond (isUtc n d i) K.Utc K.Other)
-unfolding kindFor
-page-kind n d i h = ⊎-elim (λ e. rw e) (λ e. rw e) (page-number n h)
-
-kind-almanac : (n d i : ℕ) → isAlmanac n d i ≡ true → kindFor n d i ≡ K.Almanac
-kind-almanac n d i h = page-kind n d i (almanac-page n d i h) ∙ rw h
-
-kind-utc : (n d i : ℕ) → isUtc n d i ≡ true → kindFor n d i ≡ K.Utc
-unfolding isUtc kindFor isAlmanac isPage
-kind-utc n d i h =
-    let a = and-true (eqb n 4) (eqb d 1 && eqb i 56) h in
-    let b = and-true (eqb d 1) (eqb i 56) (a .1) in
-    λ t. kindFor (eqb-true n 4 (a .0) t) (eqb-true d 1 (b .0) t) (eqb-true i 56 (b .1) t)
-
-kind-other : (n d i : ℕ) → isOther n d i ≡ true → kindFor n d i ≡ K.Other
-unfolding isOther
-kind-other n d i h =
-    let a = and-true (isPage n) (not (isAlmanac n d i) && not (isUtc n d i)) h in
-    let b = and-true (not (isAlmanac n d i)) (not (isUtc n d i)) (a .1) in
-    page-kind n d i (a .0) ∙ rw (not-true (isAlmanac n d i) (b .0), not-true (isUtc n d i) (b .1))
 
 -- ---- the record made of a record's own values is that record
 

@@ -1,14 +1,15 @@
 -- Laws. What it says of a record that the writer takes it, condition by condition.
 use mathlib.Core.Path.{_≡_}
 use mathlib.Core.Bool.{true, not, _&&_}
-use mathlib.Core.Logic.{_⊎_, inl, inr, ⊎-elim}
+use mathlib.Core.Logic.{_⊎_, ⊎-elim}
 use Prim.Native.Nat.{ℕ, _≤_}
 use native.Mathlib.Omega.{arith}
 use borrow.Author.Tests.{eqb-true, ltb-false, not-true}
-use lib.Dec.{eqb, leb, ltb}
-use Rattle.bits.specs.Tests.{and-true, or-true}
+use lib.Dec.{eqb, ltb}
+use Rattle.bits.specs.Tests.{and-true}
 use Rattle.layout.specs.Layout.{allWithin}
-use Rattle.record.specs.Kind.{isPage, isAlmanac, isUtc, isOther}
+use Rattle.record.specs.Kind.{isPage, isUtc}
+use Rattle.record.specs.Kinds.{page-number, almanac-page, other-page}
 use Rattle.record.specs.Fields.{headerFields, fieldsOf}
 use Rattle.record.specs.Record.{kindOf, header, headerValues, fieldValues}
 use Rattle.record.specs.Writable.{withinFields, ofItsKind, writable}
@@ -35,18 +36,6 @@ taken r h =
     }
 
 -- ---- its subframe number
-
-pub page-number : (n : ℕ) → isPage n ≡ true → (n ≡ 4) ⊎ (n ≡ 5)
-unfolding isPage
-page-number n h = ⊎-elim (λ e. inl (eqb-true n 4 e)) (λ e. inr (eqb-true n 5 e)) (or-true (eqb n 4) (eqb n 5) h)
-
-pub almanac-page : (n d i : ℕ) → isAlmanac n d i ≡ true → isPage n ≡ true
-unfolding isAlmanac
-almanac-page n d i h = and-true (isPage n) (eqb d 1 && (leb 1 i && leb i 32)) h .0
-
-pub other-page : (n d i : ℕ) → isOther n d i ≡ true → isPage n ≡ true
-unfolding isOther
-other-page n d i h = and-true (isPage n) (not (isAlmanac n d i) && not (isUtc n d i)) h .0
 
 abbrev Numbered : ℕ → Type 0
 Numbered n = (1 ≤ n) × (n ≤ 5)

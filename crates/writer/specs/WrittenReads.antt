@@ -8,7 +8,7 @@ use native.Mathlib.Nat.{zero-add}
 use native.Mathlib.Omega.{arith}
 use lib.ListN.{getD}
 use Rattle.bits.specs.Bits.{bitsAt, unpack}
-use Rattle.bits.specs.Pack.{pack-same, pack-unpack}
+use Rattle.bits.specs.Pack.{pack-equal, pack-unpack}
 use Rattle.answer.specs.Answer.{accepted}
 use Rattle.block.specs.Block.{Block, preamble, count, subframeNumber, source}
 use Rattle.block.specs.Compare.{Accepted, Conforms, Equal}
@@ -40,7 +40,7 @@ module _ (r : Record) (polarity : Polarity) (b : Block) (same : Equal b (blockOf
   unfolding preamble
   preamble-written =
       sym (source-field b 1 (omega arith) (omega arith) 1 8 (omega arith) (omega arith))
-      ∙ pack-same 8 (bitsAt (source b) 0) (unpack 8 0b10001011) (λ j h. ap (λ (x : ℕ). x % 2) (at j h))
+      ∙ pack-equal 8 (bitsAt (source b) 0) (unpack 8 0b10001011) at
       ∙ pack-unpack 8 0b10001011 (omega arith)
     where
       at : (j : ℕ) → j < 8 → getD (source b) (0 + j) 0 ≡ unpack 8 0b10001011 j

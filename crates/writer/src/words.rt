@@ -33,6 +33,7 @@ pub(crate) fn put_block(buf: &mut [u8], message: &[u8; 240], a: u32)
     requires { ⌜ (302 ≤ length (now buf)) × ((a < 2) × ((i : ℕ) → bitsAt (now message) 0 i < 2)) ⌝ }
     ensures { λ r. ⌜ Put (now (buf .entry)) 0 302 (blockFrom (bitsAt (now (message .entry)) 0) a) (now (buf .exit)) ⌝ }
 {
+    // The start pair as a number of two bits.
     let mut window = a * 3;
     put_number(buf, 0, 2, window);
     let mut k: usize = 0;

@@ -6,7 +6,7 @@ use native.Mathlib.Omega.{arith}
 use Rattle.bits.specs.Bits.{Same, bitsAt, pack, unpack}
 use Rattle.bits.specs.Places.{bitsAt-later}
 use Rattle.bits.specs.Xor.{odd-only}
-use Rattle.bits.specs.Pack.{pack-same, unpack-pack}
+use Rattle.bits.specs.Pack.{pack-equal, unpack-pack}
 use Rattle.bits.specs.Parts.{pack-part}
 use Rattle.parity.specs.Word.{sourceBit, sourceBits, passes}
 use Rattle.parity.specs.Local.{passes-local, passes-packed}
@@ -38,5 +38,5 @@ module _ (s : List ℕ) (p k : ℕ) where
   field-at a n m e r q =
       ap (λ (x : ℕ). x / 2 ^ m % 2 ^ n) (q ∙ ap (λ (x : ℕ). pack x (λ i. sourceBit (unpack 32 packedAt) (suc i))) e)
       ∙ pack-part a n m (λ i. sourceBit (unpack 32 packedAt) (suc i))
-      ∙ pack-same n (λ i. sourceBit (unpack 32 packedAt) (suc (a + i))) (λ i. sourceBit (window (bitsAt s p) k) (1 + a + i))
-      (λ i h. ap (λ (x : ℕ). x % 2) (source-at (suc (a + i)) (omega arith) ∙ ap (sourceBit (window (bitsAt s p) k)) (omega arith)))
+      ∙ pack-equal n (λ i. sourceBit (unpack 32 packedAt) (suc (a + i))) (λ i. sourceBit (window (bitsAt s p) k) (1 + a + i))
+      (λ i h. source-at (suc (a + i)) (omega arith) ∙ ap (sourceBit (window (bitsAt s p) k)) (omega arith))

@@ -8,7 +8,7 @@ use borrow.Author.Tests.{lt-ltb, le-ltb}
 use lib.Dec.{ltb, lit<}
 use lib.Pow.{shr-shr}
 use Rattle.bits.specs.Bits.{_⊕_, Bits, pack, unpack}
-use Rattle.bits.specs.Pack.{pack-same, unpack-pack}
+use Rattle.bits.specs.Pack.{pack-equal, unpack-pack}
 use Rattle.bits.specs.Parts.{pack-append}
 use Rattle.parity.specs.Table.{line}
 use Rattle.parity.specs.Word.{Window, sourceBit, parityBit, failure, syndrome}
@@ -40,8 +40,8 @@ module _ (p q : ℕ) (s : Bits) where
   packed : pack 32 blank ≡ dataWindow
   packed =
       pack-append 26 6 blank
-      ∙ ap₂ (λ (x y : ℕ). x * 64 + y) (pack-same 26 blank (dataBits p q s) (λ j h. ap (λ (x : ℕ). x % 2) (blank-data j h)))
-      (pack-same 6 (λ k. blank (26 + k)) (λ k. 0) (λ k h. ap (λ (x : ℕ). x % 2) (blank-zero k)) ∙ zeros)
+      ∙ ap₂ (λ (x y : ℕ). x * 64 + y) (pack-equal 26 blank (dataBits p q s) blank-data)
+      (pack-equal 6 (λ k. blank (26 + k)) (λ k. 0) (λ k h. blank-zero k) ∙ zeros)
       ∙ add-zero dataWindow
 
   unpacked : (j : ℕ) → j < 32 → unpack 32 dataWindow j ≡ blank j % 2
@@ -77,9 +77,8 @@ module _ (p q : ℕ) (s : Bits) where
   whole-word =
       sym
       (pack-append 26 6 (encode p q s)
-      ∙ ap₂ (λ (x y : ℕ). x * 64 + y) (pack-same 26 (encode p q s) (dataBits p q s) (λ j h. ap (λ (x : ℕ). x % 2) (encode-data p q s j h)))
-      (pack-same 6 (λ k. encode p q s (26 + k)) (λ k. failure (unpack 32 dataWindow) (line k))
-      (λ k h. ap (λ (x : ℕ). x % 2) (encode-parity p q s k ∙ sym (failures k h)))))
+      ∙ ap₂ (λ (x y : ℕ). x * 64 + y) (pack-equal 26 (encode p q s) (dataBits p q s) (encode-data p q s))
+      (pack-equal 6 (λ k. encode p q s (26 + k)) (λ k. failure (unpack 32 dataWindow) (line k)) (λ k h. encode-parity p q s k ∙ sym (failures k h))))
 
 -- the pair, then bits 1 to 24
 pub data-parts : (p q n : ℕ) → (p % 2 * 2 + q % 2) * 2 ^ 24 + pack 24 (λ i. unpack 24 n i ⊕ q) ≡ pack 26 (dataBits p q (sourceOf n))
@@ -89,7 +88,7 @@ data-parts p q n =
     sym
     (pack-append 2 24 (dataBits p q (sourceOf n))
     ∙ ap₂ (λ (x y : ℕ). x * 2 ^ 24 + y) pair
-    (pack-same 24 (λ i. dataBits p q (sourceOf n) (2 + i)) (λ i. unpack 24 n i ⊕ q) (λ i h. ap (λ (x : ℕ). x % 2) (sent i h))))
+    (pack-equal 24 (λ i. dataBits p q (sourceOf n) (2 + i)) (λ i. unpack 24 n i ⊕ q) sent))
   where
     sent : (i : ℕ) → i < 24 → dataBits p q (sourceOf n) (2 + i) ≡ unpack 24 n i ⊕ q
     sent i h =

@@ -10,7 +10,7 @@ use Rattle.parity.proofs.encode.data_window.Tie as tie
 returns : tie.Need-returns
 returns c =
     let a = c .before .args in
-    let sent : c .by-q .result ≡ pack 24 (λ i. unpack 24 (a .source) i ⊕ a .q) = c .by-q .ensures .0 in
+    let sent : c .exclusive-or-q .result ≡ pack 24 (λ i. unpack 24 (a .source) i ⊕ a .q) = c .exclusive-or-q .ensures .0 in
     omega (arith, sent, data-parts (a .p) (a .q) (a .source))
 
 pub data-window-spec : {M : Type 1} → statement M

@@ -4,7 +4,7 @@ use Prim.Native.Nat.{ℕ, _+_, _-_, _*_, _/_, _%_, _<_}
 use native.Mathlib.Omega.{arith}
 use borrow.Author.Needs.{needs}
 use Rattle.bits.specs.Bits.{_⊕_, pack}
-use Rattle.bits.specs.Pack.{pack-last, pack-same}
+use Rattle.bits.specs.Pack.{pack-last, pack-equal}
 use Rattle.parity.specs.Encode.{sourceOf, encode, withFillers, filler23, filler24, encodeEnding}
 use Rattle.parity.specs.OneWord.{encode-same}
 use Rattle.parity.proofs.encode.Packed.{with-last}
@@ -15,8 +15,8 @@ use Rattle.parity.proofs.encode.encode_ending.Tie as tie
 filled : (p q n x y : ℕ) → x < 2 → y < 2 → pack 32 (encode p q (sourceOf (n - n % 4 + x * 2 + y))) ≡ pack 32 (encode p q (withFillers (sourceOf n) x y))
 filled p q n x y hx hy =
     let m = n - n % 4 + x * 2 + y in
-    pack-same 32 (encode p q (sourceOf m)) (encode p q (withFillers (sourceOf n) x y))
-    (λ j h. ap (λ (z : ℕ). z % 2) (encode-same p q (sourceOf m) (withFillers (sourceOf n) x y) (with-last n x y hx hy) j h))
+    pack-equal 32 (encode p q (sourceOf m)) (encode p q (withFillers (sourceOf n) x y))
+    (encode-same p q (sourceOf m) (withFillers (sourceOf n) x y) (with-last n x y hx hy))
 
 -- the fillers by the last two bits u and v of the word with fillers 0
 by-24 : (w u a : ℕ) → w / 2 % 2 ≡ u % 2 → (w / 2 + a % 2) % 2 ≡ u ⊕ a

@@ -9,7 +9,7 @@ use borrow.Author.Needs.{needs}
 use lib.Arith.{digits-div}
 use lib.ListN.{getD}
 use Rattle.bits.specs.Bits.{bitsAt, pack, unpack}
-use Rattle.bits.specs.Pack.{pack-lt, pack-same, unpack-pack}
+use Rattle.bits.specs.Pack.{pack-lt, pack-equal, unpack-pack}
 use Rattle.bits.specs.Parts.{pack-append}
 use Rattle.parity.specs.Encode.{sourceOf, encode, encodeEnding}
 use Rattle.parity.specs.OneWord.{encode-same}
@@ -38,15 +38,15 @@ module _ (m : List ℕ) (bits : (i : ℕ) → bitsAt m 0 i < 2) (k n : ℕ) (e :
     unfolding wordAfter
     ending f =
         rw f
-        (pack-same 32 (encodeEnding p q (sourceOf (n / 0x100)) a a) (encodeEnding p q (wordSource (bitsAt m 0) k) a a)
-        (λ j h. ap (λ (x : ℕ). x % 2) (ending-same p q (sourceOf (n / 0x100)) (wordSource (bitsAt m 0) k) (λ i l u. own-source i l (omega arith)) a a j h)))
+        (pack-equal 32 (encodeEnding p q (sourceOf (n / 0x100)) a a) (encodeEnding p q (wordSource (bitsAt m 0) k) a a)
+        (ending-same p q (sourceOf (n / 0x100)) (wordSource (bitsAt m 0) k) (λ i l u. own-source i l (omega arith)) a a))
 
     plain : hasFillers k ≡ false → pack 32 (encode p q (sourceOf (n / 0x100))) ≡ pack 32 (wordAfter (bitsAt m 0) a k p q)
     unfolding wordAfter
     plain f =
         rw f
-        (pack-same 32 (encode p q (sourceOf (n / 0x100))) (encode p q (wordSource (bitsAt m 0) k))
-        (λ j h. ap (λ (x : ℕ). x % 2) (encode-same p q (sourceOf (n / 0x100)) (wordSource (bitsAt m 0) k) own-source j h)))
+        (pack-equal 32 (encode p q (sourceOf (n / 0x100))) (encode p q (wordSource (bitsAt m 0) k))
+        (encode-same p q (sourceOf (n / 0x100)) (wordSource (bitsAt m 0) k) own-source))
 
 returns : tie.Need-returns
 returns c =

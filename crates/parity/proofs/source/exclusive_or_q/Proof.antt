@@ -1,4 +1,4 @@
--- `by_q` meets its contract: the inverse where q is odd, else the bits as they are.
+-- `exclusive_or_q` meets its contract: the inverse where q is odd, else the bits as they are.
 use mathlib.Core.Path.{_≡_, sym, ap, _∙_}
 use Prim.Native.Nat.{ℕ, _-_, _%_}
 use native.Mathlib.Omega.{arith}
@@ -6,8 +6,8 @@ use borrow.Author.Needs.{needs}
 use Rattle.bits.specs.Bits.{_⊕_, inverse, unpack}
 use Rattle.bits.specs.Pack.{pack-same, pack-lowest}
 use Rattle.bits.specs.Parts.{pack-inverse}
-use Rattle.parity.proofs.source.by_q.Statement.{statement}
-use Rattle.parity.proofs.source.by_q.Tie as tie
+use Rattle.parity.proofs.source.exclusive_or_q.Statement.{statement}
+use Rattle.parity.proofs.source.exclusive_or_q.Tie as tie
 
 odd : (x q : ℕ) → q % 2 ≡ 1 → (x ⊕ 1) % 2 ≡ (x ⊕ q) % 2
 odd x q h = omega arith
@@ -33,5 +33,5 @@ returns-2 c =
       omega arith,
     )
 
-pub by-q-spec : {M : Type 1} → statement M
-by-q-spec = tie.close (tie.spec (λ c. search needs) returns returns-2)
+pub exclusive-or-q-spec : {M : Type 1} → statement M
+exclusive-or-q-spec = tie.close (tie.spec (λ c. search needs) returns returns-2)

@@ -1,0 +1,2 @@
+-- The laws that the proofs of `message` cite.
+pub mod Table
