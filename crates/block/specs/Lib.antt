@@ -13,4 +13,5 @@ pub mod Flips
 pub mod Source
 pub mod Inverse
 pub mod Uniqueness
+pub mod Copies
 pub mod Start

@@ -1,4 +1,6 @@
 // The block check: accepted, or refused by the numbers 1 to 9 in the order of document 01's table.
+use crate::handover::count_at;
+use crate::handover::subframe_number_at;
 use answer::Checked;
 use answer::refused;
 ghost use mathlib.Core.Path.{_≡_};
@@ -66,15 +68,14 @@ fn check_fields(log: &[u8], p: usize) -> Checked
     if !ends_alike(log, p, 10) {
         return refused(7, 10);
     }
-    let handover = parity::source_bits(parity::packed_window(log, p + 30));
-    let number = (handover / 4 % 8) as usize;
+    let number = subframe_number_at(log, p);
     if number == 0 {
         return refused(8, number);
     }
     if 5 < number {
         return refused(8, number);
     }
-    let count = (handover / 0x80 % 0x20000) as usize;
+    let count = count_at(log, p);
     if 100799 < count {
         return refused(9, count);
     }

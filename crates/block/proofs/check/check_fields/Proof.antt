@@ -1,7 +1,6 @@
 -- `check_fields` meets its contract, by the ways through the table.
 use mathlib.Core.Path.{_≡_, refl, sym, ap, _∙_}
 use mathlib.Core.Bool.{true}
-use mathlib.Core.List.{List}
 use Prim.Native.Nat.{ℕ, _/_, _%_}
 use native.Mathlib.Nat.{add-zero}
 use native.Mathlib.Omega.{arith}
@@ -9,9 +8,9 @@ use borrow.Author.Needs.{needs}
 use borrow.Author.Tests.{not-true, not-false}
 use Rattle.bits.specs.Bits.{bitsAt, pack, unpack}
 use Rattle.parity.specs.Word.{sourceBits}
-use Rattle.block.specs.Block.{Block, preamble, count, subframeNumber, endsAlike}
+use Rattle.block.specs.Block.{Block, preamble, endsAlike}
 use Rattle.answer.specs.Answer.{checkedAnswer}
-use Rattle.block.proofs.check.Packed.{packedAt, field-at}
+use Rattle.block.proofs.check.Packed.{field-at}
 use Rattle.block.specs.Ways.{Framed, way-0, way-6, way-7-2, way-7-10, way-8-none, way-8-above, way-9}
 use Rattle.block.proofs.check.check_fields.Statement.{statement}
 use Rattle.block.proofs.check.check_fields.Tie as tie
@@ -41,35 +40,15 @@ passed2 c = sym (c .before .ends-alike .ensures) ∙ not-false _ (c .if2 .left)
 passed3 : (c : tie.Else3) → endsAlike (block2 (c .before .before)) 10 ≡ true
 passed3 c = sym (c .before .ends-alike2 .ensures) ∙ not-false _ (c .if3 .left)
 
-module _ (c : tie.After-source-bits2) where
+module _ (c : tie.After-subframe-number-at) where
   abbrev else3 : tie.Else3
-  else3 = c .before .before
+  else3 = c .before
 
   abbrev else2 : tie.Else2
   else2 = else3 .before .before
 
-  abbrev else1 : tie.Else1
-  else1 = else2 .before .before
-
-  abbrev log : List ℕ
-  log = else1 .before .before .before .before .args .log .now
-
-  abbrev place : ℕ
-  place = else1 .before .before .before .before .args .p
-
-  word2 : c .source-bits2 .result ≡ sourceBits (unpack 32 (packedAt log place 2))
-  word2 = c .source-bits2 .ensures ∙ ap (λ (w : ℕ). sourceBits (unpack 32 w)) (c .before .packed-window2 .ensures)
-
-  number-of : c .source-bits2 .result / 4 % 8 ≡ subframeNumber (block2 else2)
-  unfolding subframeNumber
-  number-of = field-at log place 2 19 3 2 refl (c .source-bits2 .result) word2
-
-  count-of : c .source-bits2 .result / 0x80 % 0x20000 ≡ count (block2 else2)
-  unfolding count
-  count-of = field-at log place 2 0 17 7 refl (c .source-bits2 .result) word2
-
   framed : Framed (block2 else2)
-  framed = record { preamble-right = passed1 else1; ends-2 = passed2 else2; ends-10 = passed3 else3 }
+  framed = record { preamble-right = passed1 (else2 .before .before); ends-2 = passed2 else2; ends-10 = passed3 else3 }
 
 -- ---- the needs
 
@@ -110,17 +89,8 @@ returns-3 c =
     c .refused3 .ensures
     ∙ way-7-10 (block2 (d .before)) (passed1 (d .before .before .before)) (passed2 (d .before)) (sym (d .ends-alike2 .ensures) ∙ not-true _ (c .before .if3 .taken))
 
-add-packed-window : tie.Need-add-packed-window
-add-packed-window c = search needs
-
-packed-window-requires-2 : tie.Need-packed-window-requires-2
-packed-window-requires-2 c κs = search needs
-
-source-bits-requires-2 : tie.Need-source-bits-requires-2
-source-bits-requires-2 c κs = search needs
-
-cast-number : tie.Need-cast-number
-cast-number c = search needs
+subframe-number-at-requires : tie.Need-subframe-number-at-requires
+subframe-number-at-requires c κs = search needs
 
 refused-requires-4 : tie.Need-refused-requires-4
 refused-requires-4 c κs = search needs
@@ -128,7 +98,7 @@ refused-requires-4 c κs = search needs
 returns-4 : tie.Need-returns-4
 returns-4 c =
     let d = c .before .before in
-    c .refused4 .ensures ∙ way-8-none (block2 (else2 d)) (framed d) _ (number-of d) (c .before .if4 .taken)
+    c .refused4 .ensures ∙ way-8-none (block2 (else2 d)) (framed d) _ (d .subframe-number-at .ensures) (c .before .if4 .taken)
 
 refused-requires-5 : tie.Need-refused-requires-5
 refused-requires-5 c κs = search needs
@@ -137,25 +107,27 @@ returns-5 : tie.Need-returns-5
 returns-5 c =
     let d = c .before .before .before in
     c .refused5 .ensures
-    ∙ way-8-above (block2 (else2 d)) (framed d) _ (number-of d) (c .before .before .if4 .left) (omega (arith, c .before .if5 .taken))
+    ∙ way-8-above (block2 (else2 d)) (framed d) _ (d .subframe-number-at .ensures) (c .before .before .if4 .left) (omega (arith, c .before .if5 .taken))
 
-cast-count : tie.Need-cast-count
-cast-count c = search needs
+count-at-requires : tie.Need-count-at-requires
+count-at-requires c κs = search needs
 
 refused-requires-6 : tie.Need-refused-requires-6
 refused-requires-6 c κs = search needs
 
 returns-6 : tie.Need-returns-6
 returns-6 c =
-    let d = c .before .before .before .before in
+    let e = c .before .before in
+    let d = e .before .before .before in
     c .refused6 .ensures
-    ∙ way-9 (block2 (else2 d)) (framed d) _ (number-of d) (c .before .before .before .if4 .left) (omega (arith, c .before .before .if5 .left)) _ (count-of d) (omega (arith, c .before .if6 .taken))
+    ∙ way-9 (block2 (else2 d)) (framed d) _ (d .subframe-number-at .ensures) (e .before .before .if4 .left) (omega (arith, e .before .if5 .left)) _ (e .count-at .ensures) (omega (arith, c .before .if6 .taken))
 
 returns-7 : tie.Need-returns-7
 unfolding checkedAnswer
 returns-7 c =
-    let d = c .before .before .before in
-    way-0 (block2 (else2 d)) (framed d) _ (number-of d) (c .before .before .if4 .left) (omega (arith, c .before .if5 .left)) _ (count-of d) (omega (arith, c .if6 .left))
+    let e = c .before in
+    let d = e .before .before .before in
+    way-0 (block2 (else2 d)) (framed d) _ (d .subframe-number-at .ensures) (e .before .before .if4 .left) (omega (arith, e .before .if5 .left)) _ (e .count-at .ensures) (omega (arith, c .if6 .left))
 
 pub check-fields-spec : {M : Type 1} → statement M
 check-fields-spec =
@@ -171,15 +143,12 @@ check-fields-spec =
     ends-alike-requires-2
     refused-requires-3
     returns-3
-    add-packed-window
-    packed-window-requires-2
-    source-bits-requires-2
-    cast-number
+    subframe-number-at-requires
     refused-requires-4
     returns-4
     refused-requires-5
     returns-5
-    cast-count
+    count-at-requires
     refused-requires-6
     returns-6
     returns-7)

@@ -1,0 +1,34 @@
+-- `find` meets its contract, by the lines of the table.
+use mathlib.Core.Path.{sym, ap, _∙_}
+use native.Mathlib.Omega.{arith}
+use borrow.Author.Needs.{needs}
+use Rattle.answer.specs.Answer.{accepted}
+use Rattle.search.specs.Search.{foundAnswer}
+use Rattle.search.specs.Searches.{way-0, way-1, way-10}
+use Rattle.search.proofs.place.find.Statement.{statement}
+use Rattle.search.proofs.place.find.Tie as tie
+
+returns : tie.Need-returns
+unfolding foundAnswer
+returns c =
+    let a = c .before .before .args in
+    sym (way-1 (a .t1 .now) (a .p) (c .if1 .taken))
+
+first-from-requires : tie.Need-first-from-requires
+first-from-requires c κs = search needs
+
+returns-2 : tie.Need-returns-2
+unfolding foundAnswer
+returns-2 c =
+    let a = c .before .before .before .before .before .args in
+    sym (way-10 (a .t1 .now) (a .p) (omega arith) (omega (arith, c .if2 .taken, c .before .first-from .ensures)))
+
+returns-3 : tie.Need-returns-3
+unfolding foundAnswer
+returns-3 c =
+    let a = c .before .before .before .before .before .args in
+    let q = c .before .first-from in
+    ap accepted (q .ensures) ∙ sym (way-0 (a .t1 .now) (a .p) (omega arith) (omega (arith, c .if2 .left, q .ensures)))
+
+pub find-spec : {M : Type 1} → statement M
+find-spec = tie.close (tie.spec returns first-from-requires returns-2 returns-3)
