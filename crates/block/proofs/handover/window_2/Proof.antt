@@ -10,6 +10,7 @@ use Rattle.bits.specs.Pack.{pack-equal}
 use Rattle.block.proofs.handover.window_2.Statement.{statement}
 use Rattle.block.proofs.handover.window_2.Tie as tie
 
+-- past the end every bit is 0
 past-end : (s : List ℕ) (p : ℕ) → length s ≤ p → 0 ≡ pack 32 (bitsAt s p)
 unfolding pack
 past-end s p h = sym (pack-equal 32 (bitsAt s p) (λ j. 0) (λ j l. List·getD-eq-default s 0 {n = p + j} (omega arith)))

@@ -36,7 +36,7 @@ unfolding overlong lineOf ascii
 returns c =
     let d = c .before .before .before in
     let a = d .before .before .args in
-    listed (a .log .now) (omega arith) (listing-long (a .log .now) (d .if1 .taken)) (c .put-text .ensures)
+    listed (a .log .now) (omega arith) (listing-long (a .log .now) (omega arith)) (c .put-text .ensures)
 
 slice-aggregate-put-text-2 : tie.Need-slice-aggregate-put-text-2
 slice-aggregate-put-text-2 c = search needs
@@ -48,7 +48,7 @@ put-lines-requires : tie.Need-put-lines-requires
 put-lines-requires c κs =
     let b = c .before in
     let d = b .before .before .before in
-    omega (arith, b .put-text2 .ensures .end, b .put-text2 .kept .0, lines-short (d .before .before .args .log .now) (d .if1 .left))
+    omega (arith, b .put-text2 .ensures .end, b .put-text2 .kept .0, lines-short (d .before .before .args .log .now) (omega arith))
 
 returns-2 : tie.Need-returns-2
 unfolding header lineOf ascii
@@ -56,7 +56,7 @@ returns-2 c =
     let b = c .before .before in
     let d = b .before .before .before in
     let a = d .before .before .args in
-    listed (a .log .now) (omega arith) (listing-lines (a .log .now) (d .if1 .left)) (put-more (b .put-text2 .ensures) (c .put-lines .ensures))
+    listed (a .log .now) (omega arith) (listing-lines (a .log .now) (omega arith)) (put-more (b .put-text2 .ensures) (c .put-lines .ensures))
 
 pub list-spec : {M : Type 1} → statement M
 list-spec =

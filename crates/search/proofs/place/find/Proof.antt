@@ -1,7 +1,6 @@
 -- `find` meets its contract, by the lines of the table.
 use mathlib.Core.Path.{sym, ap, _∙_}
 use native.Mathlib.Omega.{arith}
-use borrow.Author.Needs.{needs}
 use Rattle.answer.specs.Answer.{accepted}
 use Rattle.search.specs.Search.{foundAnswer}
 use Rattle.search.specs.Searches.{way-0, way-1, way-10}
@@ -12,10 +11,10 @@ returns : tie.Need-returns
 unfolding foundAnswer
 returns c =
     let a = c .before .before .args in
-    sym (way-1 (a .t1 .now) (a .p) (c .if1 .taken))
+    sym (way-1 (a .t1 .now) (a .p) (omega arith))
 
 first-from-requires : tie.Need-first-from-requires
-first-from-requires c κs = search needs
+first-from-requires c κs = omega arith
 
 returns-2 : tie.Need-returns-2
 unfolding foundAnswer
