@@ -11,7 +11,7 @@ use Rattle.block.specs.Check.{acceptedAt}
 use Rattle.block.specs.Polarity.{polarityOf}
 use Rattle.block.specs.declared.polarity.Polarity.{Polarity}
 use Rattle.block.specs.declared.polarity.Polarity.the-variants.{Upright, Inverted}
-use Rattle.listing_text.specs.Text.{ascii, decimal, lineOf}
+use Rattle.listing_text.specs.Text.{ascii, decimal, tabbed}
 
 -- The accepted places on the walk from p on, in at most n steps: after an accepted block at p it goes to p + 300, else to p + 1, until fewer than
 -- 302 bytes are left.
@@ -33,7 +33,7 @@ letter Inverted = code "I"
 
 -- a line: place, subframe number, count, U or I
 unfoldable pub lineWith : ℕ → ℕ → ℕ → ℕ → List ℕ
-lineWith p n c x = lineOf (decimal p) (decimal n ∷ decimal c ∷ (x ∷ []) ∷ [])
+lineWith p n c x = tabbed (decimal p) (decimal n ∷ decimal c ∷ (x ∷ []) ∷ [])
 
 -- the line of the block b at place p
 unfoldable pub line : ℕ → Block → List ℕ
@@ -45,11 +45,11 @@ lines s [] = []
 lines s (p ∷ ps) = line p (bitsAt s p) ++ lines s ps
 
 unfoldable pub header : List ℕ
-header = lineOf (ascii "place") (ascii "id" ∷ ascii "count" ∷ ascii "polarity" ∷ [])
+header = tabbed (ascii "place") (ascii "id" ∷ ascii "count" ∷ ascii "polarity" ∷ [])
 
 -- the one line of an overlong log
 unfoldable pub overlong : List ℕ
-overlong = lineOf (ascii "refused") (ascii "1" ∷ [])
+overlong = tabbed (ascii "refused") (ascii "1" ∷ [])
 
 -- the whole output for the log s
 unfoldable pub listing : List ℕ → List ℕ

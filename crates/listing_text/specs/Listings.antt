@@ -1,4 +1,4 @@
--- Laws. How long lines are, and that every listing fits into 4,096 bytes.
+-- Laws. The lines of the walk, how long they are, and that every listing fits into 4,096 bytes.
 use mathlib.Core.Path.{_≡_, refl, ap}
 use mathlib.Core.Bool.{Bool, true, false, cond}
 use mathlib.Core.List.{List, [], _∷_, _++_}
@@ -14,15 +14,15 @@ use Rattle.parity.specs.Word.{sourceBit}
 use Rattle.block.specs.Block.{Block, window, field, count, subframeNumber}
 use Rattle.block.specs.Check.{acceptedAt}
 use Rattle.block.specs.Polarity.{polarityOf}
-use Rattle.listing_text.specs.Text.{ascii, decimal, lineOf}
+use Rattle.listing_text.specs.Text.{ascii, decimal, tabbed}
 use Rattle.listing_text.specs.Listing.{walkIn, walk, letter, lineWith, line, lines, header, overlong, listing}
-use Rattle.listing_text.specs.Texts.{decimal-short, lineOf-last, lineOf-more}
+use Rattle.listing_text.specs.Texts.{decimal-short, tabbed-last, tabbed-more}
 use Rattle.listing_text.specs.Walks.{walk-end, walk-here, walk-next}
 
 pub lineWith-length : (p n c x : ℕ) → length (lineWith p n c x) ≡ length (decimal p) + length (decimal n) + length (decimal c) + 5
 unfolding lineWith
 lineWith-length p n c x =
-    omega (arith, lineOf-more (decimal p) (decimal n) (decimal c ∷ (x ∷ []) ∷ []), lineOf-more (decimal n) (decimal c) ((x ∷ []) ∷ []), lineOf-more (decimal c) (x ∷ []) [], lineOf-last (x ∷ []))
+    omega (arith, tabbed-more (decimal p) (decimal n) (decimal c ∷ (x ∷ []) ∷ []), tabbed-more (decimal n) (decimal c) ((x ∷ []) ∷ []), tabbed-more (decimal c) (x ∷ []) [], tabbed-last (x ∷ []))
 
 field-lt : (b : Block) (i n : ℕ) → field b 2 i n < 2 ^ n
 unfolding field
@@ -86,7 +86,7 @@ module _ (s : List ℕ) where
   listing-lines h = rw (le-ltb 65536 (length s) h)
 
   pub listing-fits : length (listing s) ≤ 4096
-  unfolding overlong header lineOf ascii
+  unfolding overlong header tabbed ascii
   listing-fits = go (decLt 65536 (length s))
     where
       go : Dec (65536 < length s) → length (listing s) ≤ 4096

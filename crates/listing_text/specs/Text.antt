@@ -25,6 +25,6 @@ unfoldable pub decimal : ℕ → List ℕ
 decimal n = decimalIn n n
 
 -- the field f and then the fields fs, parted by tabs and ended by a line feed
-unfoldable pub lineOf : List ℕ → List (List ℕ) → List ℕ
-lineOf f [] = f ++ ascii "\n"
-lineOf f (g ∷ fs) = (f ++ ascii "\t") ++ lineOf g fs
+unfoldable pub tabbed : List ℕ → List (List ℕ) → List ℕ
+tabbed f [] = f ++ ascii "\n"
+tabbed f (g ∷ fs) = (f ++ ascii "\t") ++ tabbed g fs

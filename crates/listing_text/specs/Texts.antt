@@ -6,7 +6,7 @@ use native.Mathlib.Decide.{decLt}
 use native.Mathlib.Omega.{arith}
 use borrow.Author.Tests.{lt-ltb, le-ltb}
 use lib.ListN.{length, length-append}
-use Rattle.listing_text.specs.Text.{ascii, lastDigit, decimalIn, decimal, lineOf}
+use Rattle.listing_text.specs.Text.{ascii, lastDigit, decimalIn, decimal, tabbed}
 
 -- a number below ten is its last digit
 one-in : (k n : ℕ) → n < 10 → decimalIn k n ≡ lastDigit n ∷ []
@@ -54,10 +54,10 @@ decimal-short (suc k) n h = go (decLt n 10) (decimal-short k (n / 10))
     go (no l) ih = omega (arith, decimal-more-length n (omega arith), ih (omega arith))
 
 -- the fields of a line with a byte after each
-pub lineOf-last : (f : List ℕ) → length (lineOf f []) ≡ length f + 1
-unfolding lineOf ascii
-lineOf-last f = length-append f (10 ∷ [])
+pub tabbed-last : (f : List ℕ) → length (tabbed f []) ≡ length f + 1
+unfolding tabbed ascii
+tabbed-last f = length-append f (10 ∷ [])
 
-pub lineOf-more : (f g : List ℕ) (fs : List (List ℕ)) → length (lineOf f (g ∷ fs)) ≡ length f + 1 + length (lineOf g fs)
-unfolding lineOf ascii
-lineOf-more f g fs = length-append (f ++ (9 ∷ [])) (lineOf g fs) ∙ ap (λ (n : ℕ). n + length (lineOf g fs)) (length-append f (9 ∷ []))
+pub tabbed-more : (f g : List ℕ) (fs : List (List ℕ)) → length (tabbed f (g ∷ fs)) ≡ length f + 1 + length (tabbed g fs)
+unfolding tabbed ascii
+tabbed-more f g fs = length-append (f ++ (9 ∷ [])) (tabbed g fs) ∙ ap (λ (n : ℕ). n + length (tabbed g fs)) (length-append f (9 ∷ []))

@@ -7,6 +7,7 @@ ghost use mathlib.Core.Path.{_≡_};
 ghost use Prim.Native.Nat.{_+_, _≤_};
 ghost use lib.ListN.{length, take};
 ghost use Rattle.bits.specs.Bits.{bitsAt};
+ghost use Rattle.listing_text.specs.Text.{decimal};
 ghost use Rattle.listing_text.specs.Listing.{letter, lineWith, line, lines, walk, listing, bufferAfter};
 ghost use Rattle.listing_text.specs.Put.{Put};
 
@@ -21,7 +22,7 @@ fn letter_of(polarity: Polarity) -> u8
 
 // Puts a line: place, subframe number, count, U or I.
 fn put_line(out: &mut [u8], at: usize, p: usize, number: usize, count: usize, letter: u8) -> usize
-    requires { ⌜ at + length (lineWith p number count letter) ≤ length (now out) ⌝ }
+    requires { ⌜ at + length (decimal p) + length (decimal number) + length (decimal count) + 5 ≤ length (now out) ⌝ }
     ensures { λ r. ⌜ Put (now (out .entry)) at (lineWith p number count letter) (now (out .exit)) r ⌝ }
 {
     let second = put_field(out, at, p);

@@ -1,4 +1,5 @@
 // Text put into a buffer from an index on. Each function gives the index after the text.
+ghost use mathlib.Core.Path.{_≡_};
 ghost use mathlib.Core.List.{[], _∷_, _++_};
 ghost use Prim.Native.Nat.{_+_, _<_, _≤_};
 ghost use lib.ListN.{length};
@@ -29,7 +30,7 @@ fn put_decimal(out: &mut [u8], at: usize, n: usize) -> usize
 // Puts a number and a tab.
 pub(crate) fn put_field(out: &mut [u8], at: usize, n: usize) -> usize
     requires { ⌜ at + length (decimal n) < length (now out) ⌝ }
-    ensures { λ r. ⌜ Put (now (out .entry)) at (decimal n ++ ascii "\t") (now (out .exit)) r ⌝ }
+    ensures { λ r. ⌜ Put (now (out .entry)) at (decimal n ++ ascii "\t") (now (out .exit)) r × (r ≡ at + length (decimal n) + 1) ⌝ }
 {
     let next = put_decimal(out, at, n);
     put_byte(out, next, b'\t')

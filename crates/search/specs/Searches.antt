@@ -68,6 +68,10 @@ module _ (s : List ℕ) where
 
   -- ---- what the answer means
 
+  -- an accepted place has its 302 bytes in a log that is short enough
+  room : (k : ℕ) → Accepted s k → (length s ≤ 65536) × (k + 302 ≤ length s)
+  room k a = let stands = acceptance s k .0 a .0 in (stands .short, stands .room)
+
   module _ (p : ℕ) where
     -- a place of the log at which the trial ends is accepted, and none before it is
     taken : firstPlace s p < length s → FirstAccepted s p (firstPlace s p)
@@ -80,10 +84,6 @@ module _ (s : List ℕ) where
           none-before = λ k l b a.
               false≢true (sym (first-before (acceptedAt s) p (length s - p) k l (omega arith) b) ∙ acceptedAt-true s k .1 a);
         }
-
-    -- an accepted place has its 302 bytes in a log that is short enough
-    room : (k : ℕ) → Accepted s k → (length s ≤ 65536) × (k + 302 ≤ length s)
-    room k a = let stands = acceptance s k .0 a .0 in (stands .short, stands .room)
 
     given : (q : ℕ) → searching s p ≡ accepted q → FirstAccepted s p q
     given q e = go (decLt 65536 (length s)) (decLt (firstPlace s p) (length s))

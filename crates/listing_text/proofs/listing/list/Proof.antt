@@ -7,7 +7,7 @@ use native.Mathlib.Omega.{arith}
 use borrow.Author.Needs.{needs}
 use lib.ListN.{length, take}
 use lib.Seq.{length-take-le}
-use Rattle.listing_text.specs.Text.{ascii, lineOf}
+use Rattle.listing_text.specs.Text.{ascii, tabbed}
 use Rattle.listing_text.specs.Listing.{header, overlong, listing, bufferAfter}
 use Rattle.listing_text.specs.Listings.{lines-short, listing-long, listing-lines, listing-fits}
 use Rattle.listing_text.specs.Put.{Put}
@@ -32,7 +32,7 @@ put-text-requires : tie.Need-put-text-requires
 put-text-requires c κs = search needs
 
 returns : tie.Need-returns
-unfolding overlong lineOf ascii
+unfolding overlong tabbed ascii
 returns c =
     let d = c .before .before .before in
     let a = d .before .before .args in
@@ -51,7 +51,7 @@ put-lines-requires c κs =
     omega (arith, b .put-text2 .ensures .end, b .put-text2 .kept .0, lines-short (d .before .before .args .log .now) (omega arith))
 
 returns-2 : tie.Need-returns-2
-unfolding header lineOf ascii
+unfolding header tabbed ascii
 returns-2 c =
     let b = c .before .before in
     let d = b .before .before .before in

@@ -9,6 +9,7 @@ use Rattle.bits.specs.Bits.{bitsAt}
 use Rattle.block.specs.Block.{Block, count, subframeNumber}
 use Rattle.block.specs.Polarity.{polarityOf}
 use Rattle.listing_text.specs.Listing.{letter, lineWith, line}
+use Rattle.listing_text.specs.Listings.{lineWith-length}
 use Rattle.listing_text.specs.Put.{Put}
 use Rattle.listing_text.proofs.listing.put_block_line.Statement.{statement}
 use Rattle.listing_text.proofs.listing.put_block_line.Tie as tie
@@ -28,7 +29,11 @@ the-line c =
     line-of (a .p) (bitsAt (a .log .now) (a .p)) (n .subframe-number-at .ensures) (k .count-at .ensures) (c .letter-of .ensures ∙ ap letter (p .polarity-at .ensures))
 
 put-line-requires : tie.Need-put-line-requires
-put-line-requires c κs = omega (arith, ap length (the-line (c .before)))
+put-line-requires c κs =
+    let l = c .before in
+    let n = l .before .before .before in
+    omega
+    (arith, ap length (the-line l), lineWith-length (n .before .before .before .args .p) (n .subframe-number-at .result) (l .before .before .count-at .result) (l .letter-of .result))
 
 same-length : tie.Need-same-length
 same-length c = search needs
