@@ -33,6 +33,11 @@ unfoldable pub whenAccepted : {A : Type 0} → Answer (Unit {0}) → A → Answe
 whenAccepted (accepted t) a = accepted a
 whenAccepted (refused n d) a = refused n d
 
+-- an answer without its value
+unfoldable pub outcome : {A : Type 0} → Answer A → Answer (Unit {0})
+outcome (accepted a) = accepted tt
+outcome (refused n d) = refused n d
+
 -- what the code's refusal says
 abbrev pub refusalAnswer : {A : Type 0} → Refusal → Answer A
 refusalAnswer r = refused (r .number) (r .detail)

@@ -1,5 +1,5 @@
 -- Laws. The lines of the table, and that a refusal is its number and its detail.
-use mathlib.Core.Path.{_≡_, refl, sym, ap, ap₂}
+use mathlib.Core.Path.{_≡_, refl, sym, ap, _∙_}
 use mathlib.Core.Bool.{Bool, true, false, false≢true}
 use mathlib.Core.Logic.{_↔_}
 use Prim.Native.Nat.{ℕ}
@@ -54,17 +54,22 @@ module _ {A : Type 0} where
   when-accepts (accepted t) a c e = (refl, sym (accepted-injective a c e))
   when-accepts (refused n d) a c e = absurd (refused-not n d c e)
 
-  pub refusal-injective : (r q : Refusal) → refusalAnswer {A = A} r ≡ refusalAnswer {A = A} q → r ≡ q
-  unfolding number detail
-  refusal-injective r q e =
-      let n : r .number ≡ q .number = ap number e in
-      let d : r .detail ≡ q .detail = ap detail e in
-      ap₂ (λ (x y : ℕ). record { number = x; detail = y }) n d
+-- ---- an enum of the code that holds a value or a refusal
 
--- the code's answer is determined by what it says
+module _ {A E : Type 0} (given : A → E) (refusal : Refusal → E) where
+  -- the enum with the value, or with the refusal
+  unfoldable pub answered : Answer A → E
+  answered (accepted a) = given a
+  answered (refused n d) = refusal (record { number = n; detail = d })
+
+  -- where what the enum says gives the enum back, it is determined by what it says
+  pub answer-injective : (says : E → Answer A) → ((x : E) → answered (says x) ≡ x) → (x y : E) → says x ≡ says y → x ≡ y
+  answer-injective says back x y e = sym (back x) ∙ ap answered e ∙ back y
+
 pub checkedAnswer-injective : (x y : Checked) → checkedAnswer x ≡ checkedAnswer y → x ≡ y
-unfolding checkedAnswer
-checkedAnswer-injective Accepted Accepted e = refl
-checkedAnswer-injective Accepted (Refused q) e = absurd (refused-not (q .number) (q .detail) tt (sym e))
-checkedAnswer-injective (Refused r) Accepted e = absurd (refused-not (r .number) (r .detail) tt e)
-checkedAnswer-injective (Refused r) (Refused q) e = ap Refused (refusal-injective r q e)
+unfolding checkedAnswer answered
+checkedAnswer-injective = answer-injective (λ t. Accepted) Refused checkedAnswer back
+  where
+    back : (x : Checked) → answered (λ t. Accepted) Refused (checkedAnswer x) ≡ x
+    back Accepted = refl
+    back (Refused r) = refl

@@ -1,5 +1,5 @@
 -- Laws. The reader refuses exactly as the block check does, and what it reads the writer takes.
-use mathlib.Core.Path.{_≡_, sym, ap, _∙_}
+use mathlib.Core.Path.{_≡_, refl, ap, _∙_}
 use mathlib.Core.Bool.{true}
 use mathlib.Core.List.{List}
 use Prim.Native.Nat.{ℕ}
@@ -8,7 +8,7 @@ use Rattle.bits.specs.Bits.{bitsAt}
 use Rattle.layout.specs.Field.{readField}
 use Rattle.layout.specs.Layout.{decode}
 use Rattle.answer.specs.Answer.{Answer, accepted, refused, whenAccepted}
-use Rattle.answer.specs.Lines.{refused-not, accepted-injective, when-refused, when-accepts, refusal-injective}
+use Rattle.answer.specs.Lines.{when-refused, when-accepts, answered, answer-injective}
 use Rattle.block.specs.Block.{Block, count, subframeNumber, source}
 use Rattle.block.specs.Check.{blockCheck}
 use Rattle.block.specs.Compare.{Accepted}
@@ -24,11 +24,12 @@ use Rattle.reader.specs.declared.reader.Reading.the-variants as R
 
 -- the answer determines the enum
 pub readingAnswer-injective : (x y : Reading) → readingAnswer x ≡ readingAnswer y → x ≡ y
-unfolding readingAnswer
-readingAnswer-injective (R.Accepted r) (R.Accepted q) e = ap R.Accepted (accepted-injective r q e)
-readingAnswer-injective (R.Accepted r) (R.Refused q) e = absurd (refused-not (q .number) (q .detail) r (sym e))
-readingAnswer-injective (R.Refused r) (R.Accepted q) e = absurd (refused-not (r .number) (r .detail) q e)
-readingAnswer-injective (R.Refused r) (R.Refused q) e = ap R.Refused (refusal-injective r q e)
+unfolding readingAnswer answered
+readingAnswer-injective = answer-injective R.Accepted R.Refused readingAnswer back
+  where
+    back : (x : Reading) → answered R.Accepted R.Refused (readingAnswer x) ≡ x
+    back (R.Accepted r) = refl
+    back (R.Refused r) = refl
 
 module _ (s : List ℕ) (p : ℕ) where
   -- an accepted block reads as the record of its source bits

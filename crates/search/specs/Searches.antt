@@ -1,5 +1,5 @@
 -- Laws. The search place by place, and what its answers mean.
-use mathlib.Core.Path.{_≡_, sym, ap, subst, _∙_}
+use mathlib.Core.Path.{_≡_, refl, sym, ap, subst, _∙_}
 use mathlib.Core.Bool.{true, false, false≢true}
 use mathlib.Core.List.{List}
 use mathlib.Core.Logic.{_↔_}
@@ -15,7 +15,7 @@ use Rattle.bits.specs.Bits.{bitsAt}
 use Rattle.bits.specs.First.{firstFrom}
 use Rattle.bits.specs.Firsts.{first-from, first-taken, first-before, first-here}
 use Rattle.answer.specs.Answer.{Answer, accepted, refused, number, refuseIf}
-use Rattle.answer.specs.Lines.{refused-not, accepted-injective, refusal-injective}
+use Rattle.answer.specs.Lines.{refused-not, accepted-injective, answered, answer-injective}
 use Rattle.block.specs.Check.{acceptedAt}
 use Rattle.block.specs.Compare.{Accepted, Equal}
 use Rattle.block.specs.Answers.{acceptedAt-true, acceptedAt-false}
@@ -27,11 +27,12 @@ use Rattle.search.specs.declared.place.Found.the-variants as Found
 
 -- the answer determines the enum
 pub foundAnswer-injective : (x y : Found) → foundAnswer x ≡ foundAnswer y → x ≡ y
-unfolding foundAnswer
-foundAnswer-injective (Found.At q) (Found.At r) e = ap Found.At (accepted-injective q r e)
-foundAnswer-injective (Found.At q) (Found.Refused r) e = absurd (refused-not (r .number) (r .detail) q (sym e))
-foundAnswer-injective (Found.Refused r) (Found.At q) e = absurd (refused-not (r .number) (r .detail) q e)
-foundAnswer-injective (Found.Refused r) (Found.Refused q) e = ap Found.Refused (refusal-injective r q e)
+unfolding foundAnswer answered
+foundAnswer-injective = answer-injective Found.At Found.Refused foundAnswer back
+  where
+    back : (x : Found) → answered Found.At Found.Refused (foundAnswer x) ≡ x
+    back (Found.At q) = refl
+    back (Found.Refused r) = refl
 
 module _ (s : List ℕ) where
   -- ---- one place: past the end, accepted, refused

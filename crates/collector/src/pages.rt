@@ -1,0 +1,60 @@
+// The questions for the held pages: the almanac page for an SV ID, and the UTC page.
+use crate::held::Collector;
+use crate::held::HeldAlmanac;
+use crate::held::HeldUtc;
+use crate::held::is_satellite;
+use answer::Refusal;
+use record::AlmanacPage;
+use record::UtcPage;
+ghost use mathlib.Core.Path.{_≡_};
+ghost use Rattle.collector.specs.Questions.{givenAlmanacAnswer, givenUtcAnswer, almanacQuestion, utcQuestion};
+
+// The answer to the question for an almanac page.
+pub enum GivenAlmanac {
+    Given(AlmanacPage),
+    Refused(Refusal),
+}
+
+// The answer to the question for the UTC page.
+pub enum GivenUtc {
+    Given(UtcPage),
+    Refused(Refusal),
+}
+
+impl Collector {
+    // The almanac page for an SV ID.
+    pub fn almanac(self, id: usize) -> GivenAlmanac
+        ensures { λ r. ⌜ givenAlmanacAnswer r ≡ almanacQuestion self id ⌝ }
+    {
+        if !is_satellite(id) {
+            return GivenAlmanac::Refused(Refusal {
+                number: 13,
+                detail: id,
+            });
+        }
+        let i = id - 1;
+        let entry = self.almanac[i];
+        let page = entry.page;
+        match page {
+            HeldAlmanac::Latest(latest) => GivenAlmanac::Given(latest),
+            HeldAlmanac::Nothing => GivenAlmanac::Refused(Refusal {
+                number: 20,
+                detail: 0,
+            }),
+        }
+    }
+
+    // The UTC page.
+    pub fn utc_page(self) -> GivenUtc
+        ensures { λ r. ⌜ givenUtcAnswer r ≡ utcQuestion self ⌝ }
+    {
+        let utc = self.utc;
+        match utc {
+            HeldUtc::Latest(latest) => GivenUtc::Given(latest),
+            HeldUtc::Nothing => GivenUtc::Refused(Refusal {
+                number: 20,
+                detail: 0,
+            }),
+        }
+    }
+}
