@@ -8,20 +8,22 @@ use native.Mathlib.Omega.{arith}
 use borrow.Author.Tests.{eqb-true, not-false}
 use lib.Dec.{eqb}
 use lib.ListN.{length, getD, length-set, length-replicate}
-use lib.Seq.{getD-set-other}
+use lib.Seq.{getD-set-other, set-getD}
 use Rattle.answer.specs.Answer.{Answer, accepted, refused}
 use Rattle.answer.specs.Lines.{line-accepts}
 use Rattle.record.specs.Taken.{taken}
 use Rattle.record.specs.Writable.{ofItsKind}
 use Rattle.record.specs.declared.record.AlmanacPage.{AlmanacPage}
+use Rattle.record.specs.declared.record.OtherPage.{OtherPage}
 use Rattle.record.specs.declared.record.Record.{Record}
 use Rattle.record.specs.declared.record.Record.the-variants as R
 use Rattle.reader.specs.Reading.{reading}
 use Rattle.reader.specs.Readings.{reads-writable}
 use Rattle.collector.specs.Held.{emptyEntry, emptySatellite, emptyCollector, isSatellite, satelliteOf, almanacIn, heldAlmanac, heldUtc, utcIn}
-use Rattle.collector.specs.Feed.{byKind, asAlmanac, asUtc, satelliteAfter, almanacAfter, utcAfter, kept, feeding, collectorAfter, fed}
+use Rattle.collector.specs.Feed.{byKind, asSubframe1, asSubframe2, asSubframe3, asAlmanac, asUtc, satelliteAfter, almanacAfter, utcAfter, kept, feeding, collectorAfter, fed}
 use Rattle.collector.specs.History.{Feed, after, value, brought, broughtFor, withId, almanacFor, utcFrom}
 use Rattle.collector.specs.Satellites.{bounds, almanac-id}
+use Rattle.collector.specs.Ways.{fed-accepted}
 use Rattle.collector.specs.Slots.{slot-after, either-way, entry-after}
 use Rattle.collector.specs.declared.held.Satellite.{Satellite}
 use Rattle.collector.specs.declared.held.AlmanacEntry.{AlmanacEntry}
@@ -137,3 +139,10 @@ module _ (c : Collector) (f : Feed) where
   pub utc-fed : heldUtc (after c f) ≡ orElse (utcFrom f) (heldUtc c)
   unfolding utcFrom bind orElse heldUtc kept utcAfter utcIn
   utc-fed = by-answer (λ o d. heldUtc d ≡ orElse (bind o asUtc) (heldUtc c)) refl (λ r from k. slot-after utcIn HU.Latest (λ page. refl) (asUtc r) (c .utc))
+
+-- other pages are accepted and not kept
+pub other-fed : (c : Collector) (s : List ℕ) (p n : ℕ) (page : OtherPage) → feeding s p n ≡ accepted (R.Other page) → fed c s p n ≡ c
+unfolding kept satelliteOf satelliteAfter almanacAfter utcAfter asSubframe1 asSubframe2 asSubframe3 asAlmanac asUtc byKind Option·elim
+other-fed c s p n page e =
+    fed-accepted s p n c (R.Other page) e
+    ∙ ap (λ (l : List Satellite). record { satellites = l; almanac = c .almanac; utc = c .utc }) (set-getD (c .satellites) (n - 1) emptySatellite)
