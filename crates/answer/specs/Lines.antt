@@ -20,6 +20,15 @@ module _ {A : Type 0} where
       value (accepted x) = x
       value (refused n d) = a
 
+  -- a line whose condition holds refuses, and one whose condition fails leaves the lines below to decide
+  pub line-refuses : (t : Bool) (n d : ℕ) (below : Answer A) → t ≡ true → refuseIf t n d below ≡ refused n d
+  unfolding refuseIf
+  line-refuses t n d below h = rw h
+
+  pub line-passes : (t : Bool) (n d : ℕ) (below : Answer A) → t ≡ false → refuseIf t n d below ≡ below
+  unfolding refuseIf
+  line-passes t n d below h = rw h
+
   -- a call is accepted exactly when the line's condition fails and the lines below accept it
   pub line-accepts : (t : Bool) (n d : ℕ) (below : Answer A) (a : A) → (refuseIf t n d below ≡ accepted a) ↔ ((t ≡ false) × (below ≡ accepted a))
   unfolding refuseIf

@@ -2,7 +2,6 @@
 pub mod Table
 pub mod Word
 pub mod Encode
-pub mod Examples
 pub mod Masks
 pub mod Linear
 pub mod Local
@@ -11,4 +10,3 @@ pub mod Inverse
 pub mod Flips
 pub mod OneWord
 pub mod Fillers
-pub mod ExamplesHold

@@ -4,7 +4,6 @@ pub mod Fields
 pub mod Record
 pub mod Writable
 pub mod Source
-pub mod Examples
 pub mod Positions
 pub mod Sound
 pub mod Kinds
@@ -12,5 +11,4 @@ pub mod Records
 pub mod Held
 pub mod Taken
 pub mod Returned
-pub mod ExamplesHold
 pub mod PositionsHold

@@ -12,9 +12,7 @@ use record::Subframe1;
 use record::Subframe2;
 use record::Subframe3;
 use record::UtcPage;
-ghost use mathlib.Core.Path.{_≡_};
 ghost use Prim.Native.Nat.{_≤_};
-ghost use lib.IntN.{natAbs};
 
 fn print_name(name: &[u8]) {
     io::write_all(STDOUT_FILENO, b" ");
@@ -27,22 +25,12 @@ fn print_field(name: &[u8], value: u32) {
     io::print_decimal(STDOUT_FILENO, value as u64);
 }
 
-// The absolute value. That of -2^31 is no i32, so 1 is added last.
-fn absolute(value: i32) -> u64
-    ensures { λ r. ⌜ r ≡ natAbs value ⌝ }
-{
-    if value < 0 {
-        return (-1 - value) as u64 + 1;
-    }
-    value as u64
-}
-
 fn print_signed(name: &[u8], value: i32) {
     print_name(name);
     if value < 0 {
         io::write_all(STDOUT_FILENO, b"-");
     }
-    io::print_decimal(STDOUT_FILENO, absolute(value));
+    io::print_decimal(STDOUT_FILENO, integers::absolute(value));
 }
 
 fn print_kind(kind: &[u8]) {

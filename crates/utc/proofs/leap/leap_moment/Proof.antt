@@ -1,0 +1,45 @@
+-- `leap_moment` meets its contract: every number on the way is small.
+use Prim.Native.Nat.{ℕ}
+use native.Mathlib.Nat.{le-of-lt}
+use borrow.Author.Needs.{needs}
+use lib.Dec.{lit<}
+use lib.IntN.{pos, _+ℤ_, _*ℤ_}
+use mir.Syntax.{w64}
+use mir.Val.{toZ, ofZ}
+use Rattle.integers.specs.Machine.{Small, number, literal, sum, product, stored, fits-of}
+use Rattle.record.specs.declared.record.UtcPage.{UtcPage}
+use Rattle.utc.specs.Leap.{leapWeek, leapMoment}
+use Rattle.utc.specs.LeapWeeks.{difference-size}
+use Rattle.utc.proofs.leap.leap_moment.Statement.{statement}
+use Rattle.utc.proofs.leap.leap_moment.Tie as tie
+
+module _ (c : tie.After-week-difference) where
+  abbrev page : UtcPage
+  page = c .before .args .page
+
+  abbrev week : ℕ
+  week = c .before .args .week
+
+  week-is : Small (toZ w64 week +ℤ toZ w64 (ofZ w64 (c .week-difference .result))) (leapWeek (page .wnlsf) week) 8319
+  unfolding leapWeek
+  week-is =
+      sum (number w64 week 8191 (c .before .pre .2) (lit< tt))
+      (stored w64 (record { is = c .week-difference .ensures; le = difference-size (page .wnlsf) week }) (lit< tt))
+
+  start-is : Small (toZ w64 (ofZ w64 (toZ w64 week +ℤ toZ w64 (ofZ w64 (c .week-difference .result)))) *ℤ pos 604800) (leapWeek (page .wnlsf) week *ℤ pos 604800) 5031331200
+  start-is = product (stored w64 week-is (lit< tt)) (literal 604800)
+
+  days-is : Small (toZ w64 (page .dn) *ℤ pos 86400) (pos (page .dn) *ℤ pos 86400) 22118400
+  days-is = product (number w64 (page .dn) 256 (le-of-lt (c .before .pre .1)) (lit< tt)) (literal 86400)
+
+  moment-is :
+      Small (toZ w64 (ofZ w64 (toZ w64 (ofZ w64 (toZ w64 week +ℤ toZ w64 (ofZ w64 (c .week-difference .result)))) *ℤ pos 604800)) +ℤ toZ w64 (ofZ w64 (toZ w64 (page .dn) *ℤ pos 86400)))
+      (leapMoment page week) 5053449600
+  unfolding leapMoment
+  moment-is = sum (stored w64 start-is (lit< tt)) (stored w64 days-is (lit< tt))
+
+pub leap-moment-spec : {M : Type 1} → statement M
+leap-moment-spec =
+    tie.close
+    (tie.spec (λ c. search needs) (λ c κs. search needs) (λ c. fits-of w64 (week-is c) (lit< tt)) (λ c. fits-of w64 (start-is c) (lit< tt)) (λ c. search needs)
+    (λ c. fits-of w64 (days-is (c .before)) (lit< tt)) (λ c. fits-of w64 (moment-is (c .before)) (lit< tt)) (λ c. stored w64 (moment-is (c .before)) (lit< tt) .is))

@@ -1,0 +1,93 @@
+// The time of day in UTC at a GPS week and second.
+use crate::day::TimeOfDay;
+use crate::day::modulo_day;
+use crate::day::time_at;
+use crate::leap::leap_moment;
+use crate::leap::week_difference;
+use answer::Refusal;
+use record::Record;
+use record::UtcPage;
+ghost use mathlib.Core.Path.{_≡_};
+ghost use Prim.Native.Nat.{_<_, _≤_};
+ghost use Rattle.answer.specs.Answer as Answer;
+ghost use Rattle.utc.specs.Time.{givenTimeAnswer, isGpsSecond, isDay, gpsTime, offsetAt, secondOfDay, timeQuestion};
+
+// The answer to the question for the time of day.
+pub enum GivenTime {
+    Given(TimeOfDay),
+    Refused(Refusal),
+}
+
+fn refused(number: u8, detail: usize) -> GivenTime
+    ensures { λ r. ⌜ givenTimeAnswer r ≡ Answer.refused number detail ⌝ }
+{
+    GivenTime::Refused(Refusal { number, detail })
+}
+
+// Whether number 14 lets the week and the second pass.
+fn is_gps_second(week: u32, second: u32) -> bool
+    ensures { λ r. ⌜ r ≡ isGpsSecond week second ⌝ }
+{
+    if 8191 < week {
+        return false;
+    }
+    second <= 604799
+}
+
+// Whether number 15 lets DN pass.
+fn is_day(dn: u32) -> bool
+    ensures { λ r. ⌜ r ≡ isDay dn ⌝ }
+{
+    if dn < 1 {
+        return false;
+    }
+    dn <= 7
+}
+
+// GPS time, in seconds from the start of week 0.
+fn gps_time(week: u32, second: u32) -> i64
+    requires { ⌜ (week ≤ 8191) × (second ≤ 604799) ⌝ }
+    ensures { λ r. ⌜ r ≡ gpsTime week second ⌝ }
+{
+    ((week as u64) * 604800 + (second as u64)) as i64
+}
+
+// dtLS before the leap moment, dtLSF from it on.
+fn offset_at(page: UtcPage, week: u32, second: u32) -> i32
+    requires { ⌜ (page .wnlsf < 256) × (page .dn < 256) × (week ≤ 8191) × (second ≤ 604799) ⌝ }
+    ensures { λ r. ⌜ r ≡ offsetAt page week second ⌝ }
+{
+    if gps_time(week, second) < leap_moment(page, week) {
+        page.dtls
+    } else {
+        page.dtlsf
+    }
+}
+
+// The second of the day in UTC.
+fn second_of_day(page: UtcPage, week: u32, second: u32) -> u32
+    requires { ⌜ (page .wnlsf < 256) × (page .dn < 256) × (week ≤ 8191) × (second ≤ 604799) ⌝ }
+    ensures { λ r. ⌜ r ≡ secondOfDay page week second ⌝ }
+{
+    let offset = offset_at(page, week, second);
+    modulo_day(gps_time(week, second) - (offset as i64))
+}
+
+// The time of day in UTC at a second of a full week, by a UTC page that the writer takes.
+pub fn time_of_day(page: UtcPage, week: u32, second: u32) -> GivenTime
+    ensures { λ r. ⌜ givenTimeAnswer r ≡ timeQuestion page week second ⌝ }
+{
+    if !fields::writable(Record::Utc(page)) {
+        return refused(11, 0);
+    }
+    if !is_gps_second(week, second) {
+        return refused(14, 0);
+    }
+    if !is_day(page.dn) {
+        return refused(15, page.dn as usize);
+    }
+    if week_difference(page.wnlsf, week) == -128 {
+        return refused(16, 0);
+    }
+    GivenTime::Given(time_at(second_of_day(page, week, second)))
+}
