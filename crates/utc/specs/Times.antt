@@ -1,11 +1,12 @@
 -- Laws. The answer is a time of day, and how it goes before the leap moment and from it on.
-use mathlib.Core.Path.{_≡_, refl, sym, subst}
+use mathlib.Core.Path.{_≡_, refl, sym, ap, subst}
 use mathlib.Core.Bool.{Bool, true, false, not, cond}
 use Prim.Native.Nat.{ℕ, _+_, _*_, _<_, _≤_}
 use native.Mathlib.Omega.{arith}
 use lib.Dec.{T, lit<}
 use lib.IntN.{ℤ, pos, negsuc, natAbs, _+ℤ_, _-ℤ_, _*ℤ_}
 use lib.Signed.{ltZ, _<ℤ_, _≤ℤ_, clashℤ, ltZ-yes}
+use Rattle.bits.specs.Tests.{is-true}
 use Rattle.answer.specs.Answer.{accepted, refuseIf}
 use Rattle.integers.specs.Whole.{eqZ, modulo}
 use Rattle.integers.specs.Modulo.{modulo-lt, modulo-rest}
@@ -43,21 +44,19 @@ module _ (page : UtcPage) (week second : ℕ) where
       (leap-week-127 (page .wnlsf) week (a .decided), leap-week-bits (page .wnlsf) week (page-bytes page (a .taken) .wnlsf-lt))
 
   -- before the leap moment it is GPS time shifted by dtLS, from it on by dtLSF
-  pub before-leap : gpsTime week second <ℤ leapMoment page week → secondOfDay page week second ≡ modulo (gpsTime week second -ℤ page .dtls) 86400
+  shifted-by : (b : Bool) → ltZ (gpsTime week second) (leapMoment page week) ≡ b → secondOfDay page week second ≡ modulo (gpsTime week second -ℤ cond b (page .dtls) (page .dtlsf)) 86400
   unfolding secondOfDay offsetAt
-  before-leap h = go (ltZ (gpsTime week second) (leapMoment page week)) (h .lt)
-    where
-      go : (b : Bool) → T b → modulo (gpsTime week second -ℤ cond b (page .dtls) (page .dtlsf)) 86400 ≡ modulo (gpsTime week second -ℤ page .dtls) 86400
-      go true t = refl
-      go false t = absurd t
+  shifted-by b e = ap (λ (t : Bool). modulo (gpsTime week second -ℤ cond t (page .dtls) (page .dtlsf)) 86400) e
+
+  pub before-leap : gpsTime week second <ℤ leapMoment page week → secondOfDay page week second ≡ modulo (gpsTime week second -ℤ page .dtls) 86400
+  before-leap h = shifted-by true (is-true _ (h .lt))
 
   pub from-leap : leapMoment page week ≤ℤ gpsTime week second → secondOfDay page week second ≡ modulo (gpsTime week second -ℤ page .dtlsf) 86400
-  unfolding secondOfDay offsetAt
-  from-leap h = go (ltZ (gpsTime week second) (leapMoment page week)) (λ t. clashℤ (ltZ-yes t) h)
+  from-leap h = shifted-by false (is-false _ (λ t. clashℤ (ltZ-yes t) h))
     where
-      go : (b : Bool) → (T b → ⊥) → modulo (gpsTime week second -ℤ cond b (page .dtls) (page .dtlsf)) 86400 ≡ modulo (gpsTime week second -ℤ page .dtlsf) 86400
-      go true f = absurd (f tt)
-      go false f = refl
+      is-false : (t : Bool) → (T t → ⊥) → t ≡ false
+      is-false true f = absurd (f tt)
+      is-false false f = refl
 
   -- the shift: GPS time less the offset is a number of whole days and the second of the day
   pub shifted : (days : ℤ) × (gpsTime week second -ℤ offsetAt page week second ≡ days *ℤ pos 86400 +ℤ pos (secondOfDay page week second))
