@@ -45,8 +45,8 @@ pageWith wnlsf dn dtls dtlsf = record {
   reserved10 = 0;
 }
 
-abbrev pub clock : ℕ → ℕ → ℕ → TimeOfDay
-clock hour minute second = record { hour = hour; minute = minute; second = second }
+abbrev pub clockTime : ℕ → ℕ → ℕ → TimeOfDay
+clockTime hour minute second = record { hour = hour; minute = minute; second = second }
 
 -- The word with fillers is word 2 of an upright block: count, two flags and subframe number, and as received the two fillers and the parity.
 unfoldable pub board : List Row
@@ -65,7 +65,7 @@ board =
     ∷ leap 2000 81 (accepted (pos 1873))
     ∷ leap 2000 79 (accepted (pos 2127))
     ∷ leap 2000 80 (refused 16 0)
-    ∷ time (pageWith 137 7 (pos 18) (pos 18)) 2000 0 (clock 23 59 42)
+    ∷ time (pageWith 137 7 (pos 18) (pos 18)) 2000 0 (clockTime 23 59 42)
     ∷ []
 
 unfoldable pub rowAt : ℕ → Row

@@ -17,10 +17,10 @@ use Rattle.record.specs.Kind.{isUtc, kindFor}
 use Rattle.record.specs.Writable.{withinFields, ofItsKind, writable}
 use Rattle.record.specs.Source.{headerIn, kindIn, recordOf}
 use Rattle.utc.specs.Leap.{weekDifference, leapWeek, leapMoment}
-use Rattle.utc.specs.Time.{gpsTime, offsetAt, secondOfDay, timeOfDay, isGpsSecond, isDay, timeQuestion}
+use Rattle.utc.specs.Time.{gpsTime, offsetAt, secondOfDay, timeAt, isGpsSecond, isDay, timeQuestion}
 use Rattle.board.specs.Board.{board, rowAt}
-use Rattle.board.specs.Holds.{windowOf, sourceWith, hasTgd, hasLeapWeek, isTime, holds}
+use Rattle.board.specs.Holds.{windowOf, sourceWith, hasTgd, hasLeapWeek, givesTime, holds}
 
 pub board-holds : (k : ℕ) → k < length board → T (holds (rowAt k))
-unfolding everyBelow board rowAt holds windowOf sourceWith hasTgd hasLeapWeek isTime pack unpack tabulate table line sourceBit sourceBits sourceSum parityBit failure syndrome passes sourceOf dataBits encode withFillers filler23 filler24 encodeEnding signed isSigned readField within decode allWithin isUtc kindFor withinFields ofItsKind writable headerIn kindIn recordOf refuseIf number detail isAccepted eqZ modulo weekDifference leapWeek leapMoment gpsTime offsetAt secondOfDay timeOfDay isGpsSecond isDay timeQuestion
+unfolding everyBelow board rowAt holds windowOf sourceWith hasTgd hasLeapWeek givesTime pack unpack tabulate table line sourceBit sourceBits sourceSum parityBit failure syndrome passes sourceOf dataBits encode withFillers filler23 filler24 encodeEnding signed isSigned readField within decode allWithin isUtc kindFor withinFields ofItsKind writable headerIn kindIn recordOf refuseIf number detail isAccepted eqZ modulo weekDifference leapWeek leapMoment gpsTime offsetAt secondOfDay timeAt isGpsSecond isDay timeQuestion
 board-holds = everyBelow-at (length board) (λ k. holds (rowAt k)) tt

@@ -41,9 +41,9 @@ hasLeapWeek week wnlsf (refused n d) =
     let answer = timeQuestion (pageWith wnlsf 7 (pos 18) (pos 18)) week 0 in
     eqb (number answer) n && eqb (detail answer) d
 
-unfoldable pub isTime : TimeOfDay → Answer TimeOfDay → Bool
-isTime t (accepted u) = eqb (u .hour) (t .hour) && (eqb (u .minute) (t .minute) && eqb (u .second) (t .second))
-isTime t (refused n d) = false
+unfoldable pub givesTime : TimeOfDay → Answer TimeOfDay → Bool
+givesTime t (accepted u) = eqb (u .hour) (t .hour) && (eqb (u .minute) (t .minute) && eqb (u .second) (t .second))
+givesTime t (refused n d) = false
 
 unfoldable pub holds : Row → Bool
 holds (word pair source received) =
@@ -54,4 +54,4 @@ holds (fillers pair source start received) =
     passes w && eqb (pack 32 (encodeEnding (w 0) (w 1) (sourceOf (source * 4)) (start / 2) (start % 2))) (pack 32 w)
 holds (tgd bits value) = hasTgd value (recordOf (sourceWith bits))
 holds (leap week wnlsf answer) = hasLeapWeek week wnlsf answer
-holds (time page week second answer) = isTime answer (timeQuestion page week second)
+holds (time page week second answer) = givesTime answer (timeQuestion page week second)

@@ -41,15 +41,15 @@ pub stored : (w : Width) {x z : ℤ} {n : ℕ} → Small x z n → n < 2 ^ hbits
 stored w {x} u h = record { is = toZ-ofZ w x (fits-of w u h) ∙ u .is; le = u .le }
 
 -- an unsigned number of at most n, cast
-pub number : (w : Width) (k n : ℕ) → k ≤ n → n < 2 ^ hbits w → Small (toZ w k) (pos k) n
-number w k n h l = record { is = toZ-pos w k (lt-of-le-of-lt h l); le = h }
+pub natural : (w : Width) (k n : ℕ) → k ≤ n → n < 2 ^ hbits w → Small (toZ w k) (pos k) n
+natural w k n h l = record { is = toZ-pos w k (lt-of-le-of-lt h l); le = h }
 
 pub literal : (k : ℕ) → Small (pos k) (pos k) k
 literal k = record { is = refl; le = le-refl k }
 
 -- a signed number of a width, as it stands
-pub signed : (w : Width) (z : ℤ) → SFits w z → Small z z (2 ^ hbits w)
-signed w z h = record { is = refl; le = natAbs-le z (h .sfits) }
+pub of-width : (w : Width) (z : ℤ) → SFits w z → Small z z (2 ^ hbits w)
+of-width w z h = record { is = refl; le = natAbs-le z (h .sfits) }
 
 -- a whole number from 0 on, cast to an unsigned width that holds it
 pub cast-of : (w : Width) {x : ℤ} (k : ℕ) → x ≡ pos k → Fits w k → T (nonNeg x) × Fits w (natAbs x)

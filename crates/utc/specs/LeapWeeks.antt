@@ -14,7 +14,7 @@ use Rattle.integers.specs.Whole.{eqZ, modulo}
 use Rattle.integers.specs.Modulo.{modulo-lt}
 use Rattle.utc.specs.Leap.{weekDifference, leapWeek}
 
--- what is left modulo 256 of a difference of two bytes, by which is larger
+-- a number less a byte, modulo 256
 byte-difference : (n l : ℕ) → l < 256 → modulo (pos n -ℤ pos l) 256 ≡ (n + 256 - l) % 256
 unfolding modulo
 byte-difference n zero h = omega arith
@@ -45,11 +45,12 @@ pub wraps-back : (d n l : ℕ) → d < 256 → l < 256 → (d + l) % 256 ≡ n �
 wraps-back d n l h k e = omega (arith, byte-difference n l k)
 
 module _ (wnlsf week : ℕ) where
+  -- the leap week less the week is the week difference
   from-week : leapWeek wnlsf week -ℤ pos week ≡ weekDifference wnlsf week
   unfolding leapWeek
   from-week = ap (λ (z : ℤ). z -ℤ pos week) (+ℤ-comm (pos week) (weekDifference wnlsf week)) ∙ +ℤ-negℤ-cancel (weekDifference wnlsf week) (pos week)
 
-  -- it is one of -128 to 127
+  -- the week difference is one of -128 to 127
   pub difference-range : isSigned 8 (weekDifference wnlsf week) ≡ true
   unfolding weekDifference
   difference-range = signed-within 8 (modulo (pos wnlsf -ℤ pos (week % 256)) 256) (lit< tt) (modulo-lt (pos wnlsf -ℤ pos (week % 256)) 256 (lit< tt))
@@ -58,7 +59,7 @@ module _ (wnlsf week : ℕ) where
   unfolding isSigned
   difference-size = natAbs-le (weekDifference wnlsf week) (ltb-true (mag (weekDifference wnlsf week)) (half 8) difference-range)
 
-  -- the leap week is the week and one of -128 to 127, which is the week difference; where number 16 lets it pass, at most 127 away
+  -- the leap week less the week is one of -128 to 127; where number 16 lets the question pass, at most 127 in size
   pub leap-week-near : isSigned 8 (leapWeek wnlsf week -ℤ pos week) ≡ true
   leap-week-near = ap (isSigned 8) from-week ∙ difference-range
 
@@ -70,7 +71,7 @@ module _ (wnlsf week : ℕ) where
       size (pos n) l e = omega (arith, ltb-true n 128 l)
       size (negsuc n) l e = omega (arith, ltb-true n 128 l, eqb-false n 127 e)
 
-  -- it has WNLSF's eight bits
+  -- the leap week has WNLSF's eight bits
   pub leap-week-bits : wnlsf < 256 → modulo (leapWeek wnlsf week) 256 ≡ wnlsf
   unfolding leapWeek weekDifference
   leap-week-bits h =

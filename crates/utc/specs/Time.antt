@@ -32,8 +32,8 @@ unfoldable pub secondOfDay : UtcPage → ℕ → ℕ → ℕ
 secondOfDay page week second = modulo (gpsTime week second -ℤ offsetAt page week second) 86400
 
 -- a second of the day as hour, minute and second
-unfoldable pub timeOfDay : ℕ → TimeOfDay
-timeOfDay s = record { hour = s / 3600; minute = s / 60 % 60; second = s % 60 }
+unfoldable pub timeAt : ℕ → TimeOfDay
+timeAt s = record { hour = s / 3600; minute = s / 60 % 60; second = s % 60 }
 
 -- hours below 24, minutes and seconds below 60
 pub record IsTime (t : TimeOfDay) : Type 0 where
@@ -55,4 +55,4 @@ timeQuestion page week second =
     (refuseIf (not (isGpsSecond week second)) 14 0
     (refuseIf (not (isDay (page .dn))) 15 (page .dn)
     (refuseIf (eqZ (weekDifference (page .wnlsf) week) (negsuc 127)) 16 0
-    (accepted (timeOfDay (secondOfDay page week second))))))
+    (accepted (timeAt (secondOfDay page week second))))))

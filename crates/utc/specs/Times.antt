@@ -16,17 +16,17 @@ use Rattle.record.specs.declared.record.Record.the-variants as R
 use Rattle.utc.specs.Leap.{weekDifference, leapWeek, leapMoment}
 use Rattle.utc.specs.LeapWeeks.{leap-week-127, leap-week-bits}
 use Rattle.utc.specs.Pages.{page-bytes}
-use Rattle.utc.specs.Time.{gpsTime, offsetAt, secondOfDay, timeOfDay, IsTime, isGpsSecond, isDay, timeQuestion}
+use Rattle.utc.specs.Time.{gpsTime, offsetAt, secondOfDay, timeAt, IsTime, isGpsSecond, isDay, timeQuestion}
 use Rattle.utc.specs.Ways.{time-accepted}
 use Rattle.utc.specs.declared.day.TimeOfDay.{TimeOfDay}
 
--- a second of the day has one such time
-day-time : (s : ℕ) → s < 86400 → IsTime (timeOfDay s)
-unfolding timeOfDay
+-- the time of a second of the day is one
+day-time : (s : ℕ) → s < 86400 → IsTime (timeAt s)
+unfolding timeAt
 day-time s h = record { hour-lt = omega arith; minute-lt = omega arith; second-lt = omega arith }
 
-pub time-seconds : (s : ℕ) → timeOfDay s .hour * 3600 + timeOfDay s .minute * 60 + timeOfDay s .second ≡ s
-unfolding timeOfDay
+pub time-seconds : (s : ℕ) → timeAt s .hour * 3600 + timeAt s .minute * 60 + timeAt s .second ≡ s
+unfolding timeAt
 time-seconds s = omega arith
 
 module _ (page : UtcPage) (week second : ℕ) where
@@ -72,4 +72,4 @@ leap-values-only p q week second w wnlsf dn dtls dtlsf i =
     (refuseIf (not (isGpsSecond week second)) 14 0
     (refuseIf (not (isDay (dn i))) 15 (dn i)
     (refuseIf (eqZ (weekDifference (wnlsf i) week) (negsuc 127)) 16 0
-    (accepted (timeOfDay (modulo (gpsTime week second -ℤ cond (ltZ (gpsTime week second) (leapWeek (wnlsf i) week *ℤ pos 604800 +ℤ pos (dn i) *ℤ pos 86400)) (dtls i) (dtlsf i)) 86400))))))
+    (accepted (timeAt (modulo (gpsTime week second -ℤ cond (ltZ (gpsTime week second) (leapWeek (wnlsf i) week *ℤ pos 604800 +ℤ pos (dn i) *ℤ pos 86400)) (dtls i) (dtlsf i)) 86400))))))

@@ -1,4 +1,4 @@
--- Laws. What the question for the time answers, line by line of the table, and the bounds that let a week, a second and a day pass.
+-- Laws. What the question for the time answers, line by line of the table, and the bounds on a week and a second that pass.
 use mathlib.Core.Path.{_≡_, sym}
 use mathlib.Core.Bool.{true, false}
 use Prim.Native.Nat.{ℕ, _≤_}
@@ -13,7 +13,7 @@ use Rattle.record.specs.Writable.{writable}
 use Rattle.record.specs.declared.record.UtcPage.{UtcPage}
 use Rattle.record.specs.declared.record.Record.the-variants as R
 use Rattle.utc.specs.Leap.{weekDifference}
-use Rattle.utc.specs.Time.{isGpsSecond, isDay, timeOfDay, secondOfDay, timeQuestion}
+use Rattle.utc.specs.Time.{isGpsSecond, isDay, timeAt, secondOfDay, timeQuestion}
 use Rattle.utc.specs.declared.day.TimeOfDay.{TimeOfDay}
 
 pub gps-bounds : (week second : ℕ) → isGpsSecond week second ≡ true → (week ≤ 8191) × (second ≤ 604799)
@@ -26,7 +26,7 @@ pub record Answered (page : UtcPage) (week second : ℕ) (t : TimeOfDay) : Type 
   pub in-range : isGpsSecond week second ≡ true
   pub day : isDay (page .dn) ≡ true
   pub decided : eqZ (weekDifference (page .wnlsf) week) (negsuc 127) ≡ false
-  pub is : t ≡ timeOfDay (secondOfDay page week second)
+  pub is : t ≡ timeAt (secondOfDay page week second)
 
 module _ (page : UtcPage) (week second : ℕ) where
   pub time-accepted : (t : TimeOfDay) → timeQuestion page week second ≡ accepted t → Answered page week second t
@@ -63,6 +63,6 @@ module _ (page : UtcPage) (week second : ℕ) where
         unfolding timeQuestion refuseIf
         time-16 h = rw (taken, in-range, day, h)
 
-        pub time-0 : eqZ (weekDifference (page .wnlsf) week) (negsuc 127) ≡ false → timeQuestion page week second ≡ accepted (timeOfDay (secondOfDay page week second))
+        pub time-0 : eqZ (weekDifference (page .wnlsf) week) (negsuc 127) ≡ false → timeQuestion page week second ≡ accepted (timeAt (secondOfDay page week second))
         unfolding timeQuestion refuseIf
         time-0 h = rw (taken, in-range, day, h)

@@ -1,7 +1,7 @@
 // Seconds of the day, and times of day.
 ghost use mathlib.Core.Path.{_≡_};
 ghost use Rattle.integers.specs.Whole.{modulo};
-ghost use Rattle.utc.specs.Time.{timeOfDay};
+ghost use Rattle.utc.specs.Time.{timeAt};
 
 // A time of day.
 pub struct TimeOfDay {
@@ -24,7 +24,7 @@ pub(crate) fn modulo_day(t: i64) -> u32
 
 // A second of the day as hour, minute and second.
 pub(crate) fn time_at(s: u32) -> TimeOfDay
-    ensures { λ r. ⌜ r ≡ timeOfDay s ⌝ }
+    ensures { λ r. ⌜ r ≡ timeAt s ⌝ }
 {
     TimeOfDay {
         hour: s / 3600,

@@ -10,7 +10,7 @@ use lib.Signed.{ltZ}
 use mir.Syntax.{w32, w64}
 use mir.Val.{Fits, toZ, ofZ}
 use mir.ValLaws.{toZ-ofZ}
-use Rattle.integers.specs.Machine.{Small, signed, literal, difference, stored, fits-of, cast-of}
+use Rattle.integers.specs.Machine.{Small, of-width, literal, difference, stored, fits-of, cast-of}
 use Rattle.integers.proofs.absolute.Statement.{statement}
 use Rattle.integers.proofs.absolute.Tie as tie
 
@@ -27,7 +27,7 @@ module _ (c : tie.Start) where
   z = c .args .z
 
   narrow : Small (toZ w32 (ofZ w32 z)) z 2147483648
-  narrow = record { is = toZ-ofZ w32 z (c .fits .z); le = signed w32 z (c .fits .z) .le }
+  narrow = record { is = toZ-ofZ w32 z (c .fits .z); le = of-width w32 z (c .fits .z) .le }
 
   wide : Small (toZ w64 (ofZ w64 (toZ w32 (ofZ w32 z)))) z 2147483648
   wide = stored w64 narrow (lit< tt)
@@ -44,11 +44,11 @@ module _ (c : tie.Start) where
 negated : (c : tie.Then1) → toZ w64 (ofZ w64 (pos 0 -ℤ toZ w64 (ofZ w64 (toZ w32 (ofZ w32 (z (c .before))))))) ≡ pos (natAbs (z (c .before)))
 negated c = stored w64 (less (c .before)) (lit< tt) .is ∙ below-zero (z (c .before)) (sign (c .before) true (c .if1 .taken))
 
-natural : (c : tie.Else1) → toZ w64 (ofZ w64 (toZ w32 (ofZ w32 (z (c .before))))) ≡ pos (natAbs (z (c .before)))
-natural c = wide (c .before) .is ∙ from-zero (z (c .before)) (sign (c .before) false (c .if1 .left))
+kept : (c : tie.Else1) → toZ w64 (ofZ w64 (toZ w32 (ofZ w32 (z (c .before))))) ≡ pos (natAbs (z (c .before)))
+kept c = wide (c .before) .is ∙ from-zero (z (c .before)) (sign (c .before) false (c .if1 .left))
 
 pub absolute-spec : {M : Type 1} → statement M
 absolute-spec =
     tie.close
     (tie.spec (λ c. fits-of w64 (narrow c) (lit< tt)) (λ c. fits-of w64 (less (c .before)) (lit< tt)) (λ c. cast-of w64 (natAbs (z (c .before))) (negated c) (fits (c .before)))
-    (λ c. ap natAbs (negated c)) (λ c. cast-of w64 (natAbs (z (c .before))) (natural c) (fits (c .before))) (λ c. ap natAbs (natural c)))
+    (λ c. ap natAbs (negated c)) (λ c. cast-of w64 (natAbs (z (c .before))) (kept c) (fits (c .before))) (λ c. ap natAbs (kept c)))

@@ -1,11 +1,11 @@
 -- `time_at` meets its contract.
 use mathlib.Core.Path.{refl}
-use Rattle.utc.specs.Time.{timeOfDay}
+use Rattle.utc.specs.Time.{timeAt}
 use Rattle.utc.proofs.day.time_at.Statement.{statement}
 use Rattle.utc.proofs.day.time_at.Tie as tie
 
 returns : tie.Need-returns
-unfolding timeOfDay
+unfolding timeAt
 returns c = refl
 
 pub time-at-spec : {M : Type 1} → statement M

@@ -6,7 +6,7 @@ use lib.Dec.{lit<}
 use lib.IntN.{pos, _+ℤ_, _*ℤ_}
 use mir.Syntax.{w64}
 use mir.Val.{toZ, ofZ}
-use Rattle.integers.specs.Machine.{Small, number, literal, sum, product, stored, fits-of}
+use Rattle.integers.specs.Machine.{Small, natural, literal, sum, product, stored, fits-of}
 use Rattle.record.specs.declared.record.UtcPage.{UtcPage}
 use Rattle.utc.specs.Leap.{leapWeek, leapMoment}
 use Rattle.utc.specs.LeapWeeks.{difference-size}
@@ -23,14 +23,14 @@ module _ (c : tie.After-week-difference) where
   week-is : Small (toZ w64 week +ℤ toZ w64 (ofZ w64 (c .week-difference .result))) (leapWeek (page .wnlsf) week) 8319
   unfolding leapWeek
   week-is =
-      sum (number w64 week 8191 (c .before .pre .2) (lit< tt))
+      sum (natural w64 week 8191 (c .before .pre .2) (lit< tt))
       (stored w64 (record { is = c .week-difference .ensures; le = difference-size (page .wnlsf) week }) (lit< tt))
 
   start-is : Small (toZ w64 (ofZ w64 (toZ w64 week +ℤ toZ w64 (ofZ w64 (c .week-difference .result)))) *ℤ pos 604800) (leapWeek (page .wnlsf) week *ℤ pos 604800) 5031331200
   start-is = product (stored w64 week-is (lit< tt)) (literal 604800)
 
   days-is : Small (toZ w64 (page .dn) *ℤ pos 86400) (pos (page .dn) *ℤ pos 86400) 22118400
-  days-is = product (number w64 (page .dn) 256 (le-of-lt (c .before .pre .1)) (lit< tt)) (literal 86400)
+  days-is = product (natural w64 (page .dn) 256 (le-of-lt (c .before .pre .1)) (lit< tt)) (literal 86400)
 
   moment-is :
       Small (toZ w64 (ofZ w64 (toZ w64 (ofZ w64 (toZ w64 week +ℤ toZ w64 (ofZ w64 (c .week-difference .result)))) *ℤ pos 604800)) +ℤ toZ w64 (ofZ w64 (toZ w64 (page .dn) *ℤ pos 86400)))

@@ -7,13 +7,13 @@ use lib.Dec.{lit<}
 use lib.IntN.{pos, _-ℤ_}
 use mir.Syntax.{w64}
 use mir.Val.{toZ}
-use Rattle.integers.specs.Machine.{Small, number, literal, difference, stored, fits-of}
+use Rattle.integers.specs.Machine.{Small, natural, literal, difference, stored, fits-of}
 use Rattle.layout.specs.Signs.{signed-low, signed-less}
 use Rattle.utc.proofs.leap.signed_byte.Statement.{statement}
 use Rattle.utc.proofs.leap.signed_byte.Tie as tie
 
 byte : (n : ℕ) → n < 256 → Small (toZ w64 n) (pos n) 255
-byte n h = number w64 n 255 (omega arith) (lit< tt)
+byte n h = natural w64 n 255 (omega arith) (lit< tt)
 
 less : (n : ℕ) → n < 256 → Small (toZ w64 n -ℤ pos 256) (pos n -ℤ pos 256) 511
 less n h = difference (byte n h) (literal 256)

@@ -9,7 +9,7 @@ use mir.Syntax.{w32, w64}
 use mir.Val.{SFits, toZ, ofZ}
 use mir.ValLaws.{toZ-ofZ}
 use Rattle.integers.specs.Whole.{modulo}
-use Rattle.integers.specs.Machine.{Small, signed, difference, stored, fits-of}
+use Rattle.integers.specs.Machine.{Small, of-width, difference, stored, fits-of}
 use Rattle.record.specs.declared.record.UtcPage.{UtcPage}
 use Rattle.utc.specs.Time.{gpsTime, offsetAt, secondOfDay}
 use Rattle.utc.proofs.time.second_of_day.Statement.{statement}
@@ -35,7 +35,7 @@ module _ (c : tie.After-gps-time) where
   offset-is : Small (toZ w32 (ofZ w32 (c .before .offset-at .result))) (offsetAt page week second) 2147483648
   offset-is =
       let fits : SFits w32 (c .before .offset-at .result) = search needs in
-      let size = signed w32 (c .before .offset-at .result) fits .le in
+      let size = of-width w32 (c .before .offset-at .result) fits .le in
       record {
         is = toZ-ofZ w32 (c .before .offset-at .result) fits ∙ c .before .offset-at .ensures;
         le = subst (λ (z : ℤ). natAbs z ≤ 2147483648) (c .before .offset-at .ensures) size;

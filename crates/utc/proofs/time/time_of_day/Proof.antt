@@ -13,7 +13,7 @@ use Rattle.integers.specs.Machine.{same-bits}
 use Rattle.integers.specs.Modulo.{eq-eqZ, ne-eqZ}
 use Rattle.record.specs.Writable.{writable}
 use Rattle.record.specs.declared.record.Record.the-variants as R
-use Rattle.utc.specs.Time.{givenTimeAnswer, isGpsSecond, isDay, timeOfDay}
+use Rattle.utc.specs.Time.{givenTimeAnswer, isGpsSecond, isDay, timeAt}
 use Rattle.utc.specs.Pages.{Bytes, page-bytes}
 use Rattle.utc.specs.Ways.{gps-bounds, time-11, time-14, time-15, time-16, time-0}
 use Rattle.utc.proofs.time.time_of_day.Statement.{statement}
@@ -81,7 +81,7 @@ returns-5 c =
     let else2 = asked .before .before .before in
     let else1 = else2 .before .before in
     let a = else1 .before .before .args in
-    ap accepted (c .time-at .ensures ∙ ap timeOfDay (c .before .second-of-day .ensures))
+    ap accepted (c .time-at .ensures ∙ ap timeAt (c .before .second-of-day .ensures))
     ∙ sym
     (time-0 (a .page) (a .week) (a .second) (taken else1) (in-range else2) (day (asked .before))
     (ne-eqZ _ (negsuc 127) (λ e. c .before .before .if4 .left (ap (ofZ w64) (asked .week-difference .ensures ∙ e)))))
