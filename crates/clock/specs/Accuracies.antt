@@ -33,7 +33,7 @@ mapped-at f xs ys d e same k h = ap (λ (zs : List _). getD zs k d) same ∙ map
     mapped (y ∷ ys) zero h = refl
     mapped (y ∷ ys) (suc k) h = mapped ys k (le-of-suc-le-suc h)
 
--- each length is nearer to the one that document 01 states than any other double is
+-- each length is nearer to the one that document 01 states than the doubles just below and just above it
 pub metres-nearest : (k : ℕ) → k < length tenths → T (isNearest (getD tenths k 0) 10 (nearestTenths (getD tenths k 0)))
 unfolding everyBelow tenths nearestTenths round ofBits toBits distance nearer isNearest
 metres-nearest = everyBelow-at (length tenths) (λ k. isNearest (getD tenths k 0) 10 (nearestTenths (getD tenths k 0))) tt

@@ -1,4 +1,4 @@
--- Definitions. When a positive double is the nearest one to a fraction.
+-- Definitions. When a positive double is nearer to a fraction than its two neighbours.
 use mathlib.Core.Bool.{Bool, _&&_}
 use Prim.Native.Nat.{ℕ, _+_, _-_, _*_}
 use lib.Dec.{ltb}
@@ -13,6 +13,6 @@ distance a c x = (num x * c - a * den x) + (a * den x - num x * c)
 unfoldable pub nearer : ℕ → ℕ → Float → Float → Bool
 nearer a c x y = ltb (distance a c x * den y) (distance a c y * den x)
 
--- x is nearer to a / c than the doubles just below and just above it, and so than any other
+-- x is nearer to a / c than the doubles just below and just above it; positive doubles are ordered as their bits are
 unfoldable pub isNearest : ℕ → ℕ → Float → Bool
 isNearest a c x = nearer a c x (ofBits binary64 (toBits binary64 x - 1)) && nearer a c x (ofBits binary64 (toBits binary64 x + 1))
