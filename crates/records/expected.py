@@ -1,24 +1,37 @@
-# Makes this program's input and expected output, stdin and stdout, from recordings of real satellites and another team's decoder.
-# Needs Python 3 and the command gpsdecode (Debian's package gpsd-clients, version 3.22). Run in this folder:
-#     python3 expected.py stdin stdout ublox-m8t-sv03.log novatel-2009-sv03.log
-# A recording is a log, a byte 0 or 1 for each bit, that begins with a start pair and has a block every 300 bytes. The input is each
-# recording followed by its inverse, so the two recordings stand in stdin at 0 to 24,001 and at 48,004 to 50,705.
+# Makes this program's inverted logs, arguments and expected output, data/*-inverted.log, args and stdout, from the four recordings of real
+# satellites in data/ and another team's decoder. Needs Python 3 and the command gpsdecode (Debian's package gpsd-clients, version 3.22). Run
+# in this folder:
+#     python3 expected.py
+# A recording is a log, a byte 0 or 1 for each bit, upright, that begins with a start pair and has a block every 300 bytes. docs/RECORDINGS.md
+# says where they come from. The script fails where a recording or its inverse has not its blocks there, and where the two do not give the
+# same lines.
 #
-# Every block is read twice: by gpsdecode, and here from the recorded bits by document 01. The script fails where the two differ.
+# Every block is read twice: by gpsdecode, which is given its source bits and the satellite's number, and here from the recorded bits by
+# document 01. The script fails where the two differ, and prints how many values were compared.
 # The value written is gpsdecode's for each field whose list below gives gpsdecode's name after the width, and the script's own for the
 # others, which gpsdecode does not print: message, reserved, flag18, flag19, data_id and every field named reserved.
-# What gpsdecode prints otherwise than document 01 has it:
-#     TOW17 is six times the count, and dataid is the page's ID. IODC is one number. Cic and IDOT are unsigned 32-bit numbers.
-#     It prints nothing for some pages. Here they are other pages of subframe 4, with ID 53, 54, 57 (three times) and 62, and every field
-#     of theirs is the script's own.
-#     It takes the page with ID 0 for an almanac page. What it prints is compared with the bits read as one, and not written.
-#     It prints the page with ID 55 as text, which is compared and not written.
-#     It splits the numbers of the page with ID 52 where they run into the next word. They are not compared.
+# What gpsdecode prints otherwise than document 01 has it, and what is done about it:
+#     TOW17 is six times the count, and dataid is the page's ID. IODC is one number. Cic and IDOT are unsigned 32-bit numbers. They are
+#     turned into document 01's numbers before they are compared.
+#     It prints the pages of the list PRINTED alone. Of the recorded ones it leaves out other pages of subframe 4, with ID 53, 54, 57 and 62.
+#     Every field of theirs is the script's own.
+#     It prints a content of its own for other pages with some IDs, where document 01 has reserved bits. Subframe number and ID are
+#     compared and written, the content is compared with the bits read in that form, and the reserved fields are the script's own:
+#         ID 0 as an almanac page.
+#         ID 51 and 63 as lists of health and configuration numbers. The toa of ID 51 is in seconds, 4,096 times the number.
+#         ID 52 as a list of 30 numbers of six bits. It puts -32 at the sender's own place among them, and the data ID where the indicator
+#         belongs. Seven numbers run into the next word. It shifts their first two bits by two places where four are right, so these
+#         seven are not compared.
+#         ID 55 as text.
+#     It takes no notice of the data ID, and it leaves out almanac pages with SV ID 25 to 32 in subframe 5 and 1 to 24 in subframe 4. The
+#     recordings have no such page, and every page has the data ID field 1. The script fails at an almanac page that is not printed.
 import collections
 import json
 import struct
 import subprocess
-import sys
+
+# Name, satellite and number of blocks of each recording, in the order of the output.
+RECORDINGS = [('ublox-m8t-sv03', 3, 80), ('ublox-2008-sv05', 5, 40), ('ublox-2008-sv12', 12, 40), ('novatel-2009-sv03', 3, 9)]
 
 # The parity bits 25 to 30: 0 for P or 1 for Q, and the source bits.
 TABLE = [
@@ -46,8 +59,29 @@ FIELDS = {
     'other': 'data_id:2 id:6:dataid reserved3:16 reserved4:24 reserved5:24 reserved6:24 reserved7:24 reserved8:24 reserved9:24 '
              'reserved10:22',
 }
+# The IDs of the pages that gpsdecode prints, by subframe number.
+PRINTED = {4: [0, *range(25, 33), 52, 55, 56, 63], 5: [*range(25), 51]}
 # The part of gpsdecode's message that has the fields.
 PARTS = {'subframe1': 'EPHEM1', 'subframe2': 'EPHEM2', 'subframe3': 'EPHEM3', 'almanac': 'ALMANAC', 'utc': 'IONO'}
+
+# A run of fields that gpsdecode numbers, as in the lists above.
+def numbered(name, first, last, width):
+    return ' '.join('%s:%s:%s%d' % (name, width, name, k) for k in range(first, last + 1))
+
+# The content of other pages by the part of gpsdecode's message that has it: source bits 57 to 238 as gpsdecode takes them. An almanac page's
+# begins with source bit 49.
+FORMS = {
+    'HEALTH': numbered('SV', 1, 32, '4') + ' unused:2 ' + numbered('SVH', 25, 32, '6') + ' unused:4',
+    'HEALTH2': 'toa:8:toa WNa:8:WNa ' + numbered('SVH', 1, 24, '6') + ' unused:22',
+    'NMCT': 'indicator:2 ' + numbered('ERD', 1, 30, '6s'),
+    'system_message': numbered('character', 1, 22, '8') + ' unused:6',
+}
+# The numbers of NMCT that run into the next word.
+SPLIT = ['ERD%d' % k for k in range(3, 30, 4)]
+
+# A block as it is written. Values: each field's name, its value, and whether that is gpsdecode's. Content: how many numbers of an other page
+# were compared in the form that gpsdecode gives it.
+Block = collections.namedtuple('Block', 'kind values message content')
 
 def signed(value, width):
     return value - 2 ** width if value >= 2 ** (width - 1) else value
@@ -68,6 +102,10 @@ def read_fields(bits, fields):
 
 def read(bits, kind):
     return read_fields(bits[8:46], HEADER) + read_fields(bits[48:238], FIELDS[kind])
+
+# The values that gpsdecode prints too, by its names.
+def by_name(fields):
+    return {gpsd: value for name, gpsd, value in fields if gpsd}
 
 def kind_of(bits):
     subframe, data_id, page = int(bits[43:46], 2), int(bits[48:50], 2), int(bits[50:56], 2)
@@ -100,9 +138,9 @@ def walk(log):
         p += 300 if found else 1
     return places
 
-# What gpsdecode prints for one block, given to it alone as the message UBX-RXM-SFRB of satellite 3, or None.
-def decoded(bits):
-    body = struct.pack('<BBHBB10I', 0x02, 0x11, 42, 0, 3, *(int(bits[i:i + 24], 2) for i in range(0, 240, 24)))
+# What gpsdecode prints for one block, given to it alone as the message UBX-RXM-SFRB of a satellite, or None.
+def decoded(bits, satellite):
+    body = struct.pack('<BBHBB10I', 0x02, 0x11, 42, 0, satellite, *(int(bits[i:i + 24], 2) for i in range(0, 240, 24)))
     a = b = 0
     for byte in body:
         a = (a + byte) % 256
@@ -114,7 +152,8 @@ def decoded(bits):
 # The values of a message by gpsdecode's names, as document 01 has them.
 def values_of(message, kind):
     values = {name: message[name] for name in ('TOW17', 'frame', 'dataid') if name in message}
-    values['TOW17'] /= 6
+    values['TOW17'], rest = divmod(values['TOW17'], 6)
+    assert rest == 0
     values.update(message[PARTS[kind]] if kind in PARTS else {})
     if kind == 'subframe1':
         values['IODC_high'], values['IODC_low'] = divmod(values.pop('IODC'), 256)
@@ -124,36 +163,112 @@ def values_of(message, kind):
         assert values.pop('dataid') == values['ID']
     return values
 
-# Names and values, gpsdecode's where it has one. Fails where a value of gpsdecode's is missing, left over or not the one read here.
-def agreed(fields, values):
-    assert values == {gpsd: own for name, gpsd, own in fields if gpsd}, (fields, values)
-    return [(name, values.get(gpsd, own)) for name, gpsd, own in fields]
+# The 30 numbers of NMCT in the order of the message, by gpsdecode's names.
+def numbers_of(part, data_id, satellite):
+    assert part['ai'] == data_id and part['ERD%d' % satellite] == -32
+    rest = [part['ERD%d' % k] for k in range(1, 32) if k != satellite]
+    return {'ERD%d' % (k + 1): value for k, value in enumerate(rest)}
 
+# The content of an other page by gpsdecode's names, without what it gets wrong, and the same read from the bits.
+def content_of(form, message, bits):
+    part = message[form]
+    if form == 'ALMANAC':
+        return part, by_name(read_fields(bits[48:238], FIELDS['almanac']))
+    if form == 'system_message':
+        part = {'character%d' % (k + 1): ord(character) for k, character in enumerate(part)}
+    if form == 'HEALTH2':
+        part = dict(part, toa=part['toa'] / 4096)
+    own = by_name(read_fields(bits[56:238], FORMS[form]))
+    if form == 'NMCT':
+        part = numbers_of(part, int(bits[48:50], 2), message['tSV'])
+        for name in SPLIT:
+            del part[name], own[name]
+    return part, own
+
+# How many numbers of an other page are compared in the form that gpsdecode gives it. Fails where two differ.
+def compared_content(message, bits):
+    forms = [form for form in ['ALMANAC', *FORMS] if form in message]
+    if not forms:
+        return 0
+    part, own = content_of(forms[0], message, bits)
+    assert part == own, (part, own)
+    return len(own)
+
+# Whether gpsdecode prints the block.
+def is_printed(bits):
+    subframe, page = int(bits[43:46], 2), int(bits[50:56], 2)
+    return subframe < 4 or page in PRINTED[subframe]
+
+# Reads a block twice. Fails where a value of gpsdecode's is missing, left over or not the one read here.
+def block_of(bits, satellite):
+    kind, message = kind_of(bits), decoded(bits, satellite)
+    fields = read(bits, kind)
+    assert bool(message) == is_printed(bits)
+    if not message:
+        assert kind == 'other'
+        return Block(kind, [(name, own, False) for name, gpsd, own in fields], None, 0)
+    values = values_of(message, kind)
+    assert message['tSV'] == satellite and values == by_name(fields), (fields, message)
+    content = compared_content(message, bits) if kind == 'other' else 0
+    return Block(kind, [(name, values.get(gpsd, own), gpsd != '') for name, gpsd, own in fields], message, content)
+
+def text(place, block):
+    return ' '.join([str(place), block.kind] + ['%s=%d' % (name, value) for name, value, _ in block.values]) + '\n'
+
+# The line of a block that ../round_trip makes. No satellite sent it, and it is given to gpsdecode as satellite 1's.
 def line(place, bits):
-    kind, message = kind_of(bits), decoded(bits)
-    values = [(name, own) for name, gpsd, own in read(bits, kind)]
-    assert message or kind == 'other'
-    if message:
-        values = agreed(read(bits, kind), values_of(message, kind))
-        if 'ALMANAC' in message:
-            agreed(read(bits, 'almanac'), values_of(message, 'almanac'))
-        if 'system_message' in message:
-            assert message['system_message'] == ''.join(chr(int(bits[i:i + 8], 2)) for i in range(56, 232, 8))
-    return ' '.join([str(place), kind] + ['%s=%d' % value for value in values]) + '\n'
+    return text(place, block_of(bits, 1))
 
-def main(stdin, stdout, *recordings):
-    log, places = b'', []
-    for path in recordings:
-        recording = open(path, 'rb').read()
-        for part in (recording, bytes(1 - bit for bit in recording)):
-            places += range(len(log), len(log) + len(part) - 301, 300)
-            log += part
-    # The walk finds the recorded blocks, and none across two parts.
-    assert walk(log) == places and len(log) <= 65536
-    lines = [line(p, source_bits(log[p:p + 302])) for p in places]
-    open(stdin, 'wb').write(log)
-    open(stdout, 'w').writelines(lines)
-    print(collections.Counter(text.split()[1] for text in lines))
+# The blocks of a log, each with its place.
+def blocks_of(log, satellite, number):
+    places = walk(log)
+    assert places == list(range(0, 300 * number, 300)) and len(log) == 300 * number + 2
+    return [(p, block_of(source_bits(log[p:p + 302]), satellite)) for p in places]
+
+def count(items):
+    return ', '.join('%s: %d' % item for item in sorted(collections.Counter(items).items()))
+
+# ID of an other page, with the form that gpsdecode gives it.
+def page(block):
+    number = dict(value[:2] for value in block.values)['id']
+    forms = [form for form in ['ALMANAC', *FORMS] if block.message and form in block.message]
+    return ' '.join(['ID', str(number)] + forms)
+
+def below_zero(blocks, name):
+    return sum(dict(value[:2] for value in block.values)[name] < 0 for block in blocks if block.kind == 'subframe3')
+
+# What was compared and what was not. None differs, because the script stops at the first value that does.
+def print_figures(blocks):
+    printed, silent = [b for b in blocks if b.message], [b for b in blocks if not b.message]
+    others = [b for b in printed if b.kind == 'other']
+    own = [name for b in printed if b.kind != 'other' for name, _, gpsd in b.values if not gpsd]
+    own_of_others = [name for b in others for name, _, gpsd in b.values if not gpsd]
+    print(len(blocks), 'blocks:', count(b.kind for b in blocks))
+    print(sum(len(b.values) for b in blocks), 'values written')
+    print(sum(gpsd for b in blocks for _, _, gpsd in b.values), "are gpsdecode's, compared with those read here: 0 differ")
+    print(len(own), 'are read here alone, fields that gpsdecode does not print:', count(own))
+    print(len(own_of_others), 'are read here alone, of', len(others), 'other pages that gpsdecode prints:', count(own_of_others))
+    own_of_silent = [name for b in silent for name, _, _ in b.values]
+    print(len(own_of_silent), 'are read here alone, of', len(silent), 'other pages that it does not print:', count(map(page, silent)))
+    print(sum(b.content for b in others), 'numbers of the content of other pages compared: 0 differ;', count(map(page, others)))
+    print(len(SPLIT) * sum('NMCT' in b.message for b in others), 'such numbers not compared: those of ID 52 that run into the next word')
+    print('printed unsigned and below 0:', below_zero(blocks, 'cic'), 'Cic,', below_zero(blocks, 'idot'), 'IDOT')
+
+def main():
+    output, names, blocks = '', [], []
+    for name, satellite, number in RECORDINGS:
+        recording = open('data/%s.log' % name, 'rb').read()
+        inverse = bytes(1 - bit for bit in recording)
+        open('data/%s-inverted.log' % name, 'wb').write(inverse)
+        upright, inverted = [blocks_of(log, satellite, number) for log in (recording, inverse)]
+        assert upright == inverted
+        for file in (name + '.log', name + '-inverted.log'):
+            names.append(file + '\n')
+            output += file + '\n' + ''.join(text(*placed) for placed in upright)
+        blocks += [block for _, block in upright + inverted]
+    open('args', 'w').writelines(names)
+    open('stdout', 'w').write(output)
+    print_figures(blocks)
 
 if __name__ == '__main__':
-    main(*sys.argv[1:])
+    main()

@@ -1,6 +1,6 @@
 # Makes this program's input and expected output, stdin and stdout, apart from its code. Needs Python 3. Run in this folder:
 #     python3 expected.py stdin stdout
-# The input is that of ../records, as a copy because rt follows no link. Every block of the output is made here, by document 01's field widths and
+# The input is four logs of ../records one after the other: two recordings, each followed by its inverse. Every block of the output is made here, by document 01's field widths and
 # parity table. The fillers are found by trying all four: the script fails where not exactly one choice ends the word with the start pair.
 # The answers to what is refused are document 01's, written out below. Every accepted block of the input is made anew from its own fields, and
 # the script fails where that is not what was recorded.
@@ -119,7 +119,8 @@ def log_line(log):
     return '%d blocks, %d came back unchanged\n' % (len(places), len(places))
 
 def main(stdin, stdout):
-    log = open('../records/stdin', 'rb').read()
+    names = ['ublox-m8t-sv03', 'ublox-m8t-sv03-inverted', 'novatel-2009-sv03', 'novatel-2009-sv03-inverted']
+    log = b''.join(open('../records/data/%s.log' % name, 'rb').read() for name in names)
     lines = [block_line(*case) for case in itertools.product(records.FIELDS, CHOICES, 'UI')]
     lines += ['%s: %d %d unchanged\n' % answer for answer in ANSWERS]
     lines.append(log_line(log))

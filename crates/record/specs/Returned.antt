@@ -34,7 +34,8 @@ parts-joined z h =
     let whole : unsigned 11 z / 8 % 256 * 8 + unsigned 11 z % 8 % 8 ≡ unsigned 11 z = omega arith in
     ap (signed 11) whole ∙ signed-unsigned 11 z (sym (unsigned-within 11 z) ∙ lt-ltb (unsigned 11 z) 2048 (omega arith))
 
-with-af0 : AlmanacPage → ℤ → AlmanacPage
+-- a page with another af0
+unfoldable pub with-af0 : AlmanacPage → ℤ → AlmanacPage
 with-af0 r af0 =
     record {
       header = r .header;

@@ -1,7 +1,7 @@
-// Prints every field of every block of a log. The log comes on standard input, a byte 0 or 1 for each received bit, and at most 65,536
-// bytes of it are read. Each accepted block gives one line, parted by spaces: its place, its kind, and `name=value` for each field in the
-// order of its struct. No polarity is printed, so a log and its inverse give the same lines.
-use libc::STDIN_FILENO;
+// Prints every field of every block of the log files that its arguments name. A log has a byte 0 or 1 for each received bit. For each file the
+// name comes first. Then each accepted block gives one line, parted by spaces: its place, its kind, and `name=value` for each field in the
+// order of its struct. No polarity is printed, so a log and its inverse give the same lines. At most 65,537 bytes are read, one more than a log
+// may have, and a log of that length has no accepted block.
 use libc::STDOUT_FILENO;
 use reader::Reading;
 use record::AlmanacPage;
@@ -12,7 +12,9 @@ use record::Subframe1;
 use record::Subframe2;
 use record::Subframe3;
 use record::UtcPage;
+ghost use mathlib.Core.Path.{_≡_};
 ghost use Prim.Native.Nat.{_≤_};
+ghost use lib.ListN.{length};
 
 fn print_name(name: &[u8]) {
     io::write_all(STDOUT_FILENO, b" ");
@@ -200,8 +202,40 @@ fn print_log(log: &[u8]) {
     }
 }
 
-fn main() {
-    let mut log = io::large_buffer();
-    let n = io::read_full(STDIN_FILENO, &mut log);
+// 65,537 zeros. The contract gives the length, so that the array can be lent as a slice.
+fn log_buffer() -> [u8; 65537]
+    ensures { λ r. ⌜ 65537 ≡ length r ⌝ }
+{
+    [0; 65537]
+}
+
+fn print_file(name: &[u8], fd: i32) {
+    io::write_all(STDOUT_FILENO, name);
+    io::write_all(STDOUT_FILENO, b"\n");
+    let mut log = log_buffer();
+    let n = io::read_full(fd, &mut log);
     print_log(&log[..n]);
+}
+
+// Opens the file that argument i names, and prints what its log gives.
+fn print_argument(i: usize) {
+    let mut name = io::buffer();
+    let n = os::arg(i, &mut name);
+    let fd = os::open_read(&name[..n]);
+    if fd < 0 {
+        os::fail(&name[..n]);
+        return;
+    }
+    print_file(&name[..n], fd);
+    libc::close(fd);
+}
+
+// Argument 0 is the program's own name.
+fn main() {
+    let count = os::arg_count();
+    let mut i: usize = 1;
+    while i < count {
+        print_argument(i);
+        i += 1;
+    }
 }

@@ -1,0 +1,26 @@
+// The output of the listing program for one log.
+use super::block::{check, check_log, inverted, BLOCK};
+use super::record::read;
+
+pub fn list(log: &[u8]) -> Vec<u8> {
+    if check_log(log).is_err() {
+        return b"refused\t1\n".to_vec();
+    }
+    let mut text = String::from("place\tid\tcount\tpolarity\n");
+    let mut p = 0;
+    while log.len() - p >= BLOCK {
+        if check(log, p).is_ok() {
+            text += &line(log, p);
+            p += 300;
+        } else {
+            p += 1;
+        }
+    }
+    text.into_bytes()
+}
+
+fn line(log: &[u8], p: usize) -> String {
+    let (_, values) = read(log, p).expect("the block was accepted");
+    let polarity = if inverted(log, p) { 'I' } else { 'U' };
+    format!("{p}\t{}\t{}\t{polarity}\n", values[5], values[2])
+}

@@ -1,0 +1,5 @@
+-- The files of this folder: the definitions, then the laws.
+pub mod Told
+pub mod Fed
+pub mod Least
+pub mod ReadAgain

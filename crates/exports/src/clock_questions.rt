@@ -1,0 +1,112 @@
+// The clock terms and the accuracy of a subframe 1.
+use crate::answers::LnavAnswer;
+use crate::answers::accepted;
+use crate::answers::refused;
+use answer::Refusal;
+use clock::GivenAccuracy;
+use clock::GivenTerms;
+use clock::UserRangeAccuracy;
+use values::GivenSubframe1;
+ghost use mathlib.Core.Path.{_≡_};
+ghost use Rattle.answer.specs.Answer.{refusalAnswer};
+ghost use Rattle.clock.specs.Accuracy.{givenAccuracyAnswer, accuracyQuestion};
+ghost use Rattle.clock.specs.Terms.{givenTermsAnswer, termsQuestion};
+ghost use Rattle.values.specs.Values.{subframe1Question};
+ghost use Rattle.exports.specs.Told.{andThen, termsTold, accuracyTold};
+
+// The four clock terms.
+#[repr(C)]
+pub struct LnavTerms {
+    pub answer: LnavAnswer,
+    pub tgd: f64,
+    pub af0: f64,
+    pub af1: f64,
+    pub af2: f64,
+}
+
+// The accuracy: whether a prediction exists, and the length in metres.
+#[repr(C)]
+pub struct LnavRangeAccuracy {
+    pub answer: LnavAnswer,
+    pub predicted: bool,
+    pub metres: f64,
+}
+
+fn refused_terms(r: Refusal) -> LnavTerms
+    ensures { λ t. ⌜ t ≡ termsTold (refusalAnswer r) ⌝ }
+{
+    LnavTerms {
+        answer: refused(r),
+        tgd: 0.0,
+        af0: 0.0,
+        af1: 0.0,
+        af2: 0.0,
+    }
+}
+
+fn told_terms(g: GivenTerms) -> LnavTerms
+    ensures { λ t. ⌜ t ≡ termsTold (givenTermsAnswer g) ⌝ }
+{
+    match g {
+        GivenTerms::Given(t) => LnavTerms {
+            answer: accepted(),
+            tgd: t.tgd,
+            af0: t.af0,
+            af1: t.af1,
+            af2: t.af2,
+        },
+        GivenTerms::Refused(r) => refused_terms(r),
+    }
+}
+
+// The clock terms of the subframe 1 that has these values.
+#[no_mangle]
+pub extern "C" fn lnav_clock_terms(values: &[i64; 25]) -> LnavTerms
+    ensures { λ t. ⌜ t ≡ termsTold (andThen (subframe1Question (now (values .entry))) termsQuestion) ⌝ }
+{
+    match values::subframe1_with(values) {
+        GivenSubframe1::Given(s) => told_terms(clock::clock_terms(s)),
+        GivenSubframe1::Refused(r) => refused_terms(r),
+    }
+}
+
+fn refused_accuracy(r: Refusal) -> LnavRangeAccuracy
+    ensures { λ t. ⌜ t ≡ accuracyTold (refusalAnswer r) ⌝ }
+{
+    LnavRangeAccuracy {
+        answer: refused(r),
+        predicted: false,
+        metres: 0.0,
+    }
+}
+
+fn told_accuracy(g: GivenAccuracy) -> LnavRangeAccuracy
+    ensures { λ t. ⌜ t ≡ accuracyTold (givenAccuracyAnswer g) ⌝ }
+{
+    match g {
+        GivenAccuracy::Given(a) => match a {
+            UserRangeAccuracy::Metres(x) => LnavRangeAccuracy {
+                answer: accepted(),
+                predicted: true,
+                metres: x,
+            },
+            UserRangeAccuracy::NoPrediction => LnavRangeAccuracy {
+                answer: accepted(),
+                predicted: false,
+                metres: 0.0,
+            },
+        },
+        GivenAccuracy::Refused(r) => refused_accuracy(r),
+    }
+}
+
+// The accuracy of the subframe 1 that has these values.
+#[no_mangle]
+pub extern "C" fn lnav_accuracy(values: &[i64; 25]) -> LnavRangeAccuracy
+    ensures { λ t. ⌜ t ≡ accuracyTold (andThen (subframe1Question (now (values .entry))) accuracyQuestion) ⌝ }
+{
+    match values::subframe1_with(values) {
+        GivenSubframe1::Given(s) => told_accuracy(clock::accuracy(s)),
+        GivenSubframe1::Refused(r) => refused_accuracy(r),
+    }
+}

@@ -1,0 +1,114 @@
+// The collector as a history: blocks of one log are fed one after the other to the empty collector, then a question is answered.
+use crate::answers::LnavAnswer;
+use crate::answers::accepted;
+use crate::answers::answer_of;
+use crate::answers::refused;
+use collector::Collector;
+use collector::GivenAlmanac;
+use collector::GivenSet;
+use collector::GivenUtc;
+use record::Record;
+ghost use mathlib.Core.Path.{_≡_};
+ghost use Rattle.answer.specs.Answer.{outcome};
+ghost use Rattle.collector.specs.Feed.{feeding};
+ghost use Rattle.collector.specs.History.{reached};
+ghost use Rattle.values.specs.Values.{valuesOfAlmanac, valuesOfUtc};
+ghost use Rattle.exports.specs.Told.{told, fromValue};
+ghost use Rattle.exports.specs.Fed.{least, history, setAfter, almanacPageAfter, utcPageAfter, setSubframe1, setSubframe2, setSubframe3};
+
+fn least_of(a: usize, b: usize) -> usize
+    ensures { λ r. ⌜ r ≡ least a b ⌝ }
+{
+    if a < b { a } else { b }
+}
+
+// The collector after the feeds of the blocks at these places for these satellites, as far as both slices go.
+fn collected(log: &[u8], places: &[usize], satellites: &[usize]) -> Collector
+    ensures { λ c. ⌜ c ≡ reached (history (now (log .entry)) (now (places .entry)) (now (satellites .entry))) ⌝ }
+{
+    let count = least_of(places.len(), satellites.len());
+    let mut c = Collector::empty();
+    let mut i: usize = 0;
+    while i < count {
+        let fed = c.feed(log, places[i], satellites[i]);
+        c = fed.collector;
+        i += 1;
+    }
+    c
+}
+
+// What a feed of the block at a place of a log answers.
+#[no_mangle]
+pub extern "C" fn lnav_feed(log: &[u8], place: usize, satellite: usize) -> LnavAnswer
+    ensures { λ r. ⌜ r ≡ told (outcome (feeding (now (log .entry)) place satellite)) ⌝ }
+{
+    let fed = Collector::empty().feed(log, place, satellite);
+    let answer = fed.answer;
+    answer_of(answer)
+}
+
+// The set of a satellite after a history. A refusal leaves the values as they were.
+#[no_mangle]
+pub extern "C" fn lnav_set(
+    log: &[u8],
+    places: &[usize],
+    satellites: &[usize],
+    satellite: usize,
+    subframe1: &mut [i64; 25],
+    subframe2: &mut [i64; 25],
+    subframe3: &mut [i64; 25],
+) -> LnavAnswer
+    ensures { λ r. ⌜ (r ≡ told (setAfter (now (log .entry)) (now (places .entry)) (now (satellites .entry)) satellite)) × (now (subframe1 .exit) ≡ fromValue (now (subframe1 .entry)) setSubframe1 (setAfter (now (log .entry)) (now (places .entry)) (now (satellites .entry)) satellite)) × (now (subframe2 .exit) ≡ fromValue (now (subframe2 .entry)) setSubframe2 (setAfter (now (log .entry)) (now (places .entry)) (now (satellites .entry)) satellite)) × (now (subframe3 .exit) ≡ fromValue (now (subframe3 .entry)) setSubframe3 (setAfter (now (log .entry)) (now (places .entry)) (now (satellites .entry)) satellite)) ⌝ }
+{
+    match collected(log, places, satellites).set(satellite) {
+        GivenSet::Given(o) => {
+            let one = o.subframe1;
+            let two = o.subframe2;
+            let three = o.subframe3;
+            *subframe1 = values::values_of(Record::Subframe1(one));
+            *subframe2 = values::values_of(Record::Subframe2(two));
+            *subframe3 = values::values_of(Record::Subframe3(three));
+            accepted()
+        }
+        GivenSet::Refused(r) => refused(r),
+    }
+}
+
+// The almanac page for an SV ID after a history. A refusal leaves the values as they were.
+#[no_mangle]
+pub extern "C" fn lnav_almanac(
+    log: &[u8],
+    places: &[usize],
+    satellites: &[usize],
+    id: usize,
+    values: &mut [i64; 25],
+) -> LnavAnswer
+    ensures { λ r. ⌜ (r ≡ told (almanacPageAfter (now (log .entry)) (now (places .entry)) (now (satellites .entry)) id)) × (now (values .exit) ≡ fromValue (now (values .entry)) valuesOfAlmanac (almanacPageAfter (now (log .entry)) (now (places .entry)) (now (satellites .entry)) id)) ⌝ }
+{
+    match collected(log, places, satellites).almanac(id) {
+        GivenAlmanac::Given(page) => {
+            *values = values::values_of(Record::Almanac(page));
+            accepted()
+        }
+        GivenAlmanac::Refused(r) => refused(r),
+    }
+}
+
+// The UTC page after a history. A refusal leaves the values as they were.
+#[no_mangle]
+pub extern "C" fn lnav_utc_page(
+    log: &[u8],
+    places: &[usize],
+    satellites: &[usize],
+    values: &mut [i64; 25],
+) -> LnavAnswer
+    ensures { λ r. ⌜ (r ≡ told (utcPageAfter (now (log .entry)) (now (places .entry)) (now (satellites .entry)))) × (now (values .exit) ≡ fromValue (now (values .entry)) valuesOfUtc (utcPageAfter (now (log .entry)) (now (places .entry)) (now (satellites .entry)))) ⌝ }
+{
+    match collected(log, places, satellites).utc_page() {
+        GivenUtc::Given(page) => {
+            *values = values::values_of(Record::Utc(page));
+            accepted()
+        }
+        GivenUtc::Refused(r) => refused(r),
+    }
+}
