@@ -53,18 +53,17 @@ foundTold a = record { answer = told a; place = fromValue 0 (λ q. q) a }
 unfoldable pub readingTold : Answer Record → LnavReading
 readingTold a = record { answer = told a; kind = fromValue 0 kindNumber a }
 
--- plus zero
-unfoldable pub zero : Float
-zero = ofBits binary64 0
+unfoldable pub plusZero : Float
+plusZero = ofBits binary64 0
 
 unfoldable pub termsTold : Answer ClockTerms → LnavTerms
 termsTold a =
     record {
       answer = told a;
-      tgd = fromValue zero (λ t. t .tgd) a;
-      af0 = fromValue zero (λ t. t .af0) a;
-      af1 = fromValue zero (λ t. t .af1) a;
-      af2 = fromValue zero (λ t. t .af2) a;
+      tgd = fromValue plusZero (λ t. t .tgd) a;
+      af0 = fromValue plusZero (λ t. t .af0) a;
+      af1 = fromValue plusZero (λ t. t .af1) a;
+      af2 = fromValue plusZero (λ t. t .af2) a;
     }
 
 -- the length in metres, where there is one
@@ -72,10 +71,10 @@ unfoldable pub isPredicted : Option Float → Bool
 isPredicted o = Option·elim o false (λ x. true)
 
 unfoldable pub metres : Option Float → Float
-metres o = Option·elim o zero (λ x. x)
+metres o = Option·elim o plusZero (λ x. x)
 
 unfoldable pub accuracyTold : Answer (Option Float) → LnavRangeAccuracy
-accuracyTold a = record { answer = told a; predicted = fromValue false isPredicted a; metres = fromValue zero metres a }
+accuracyTold a = record { answer = told a; predicted = fromValue false isPredicted a; metres = fromValue plusZero metres a }
 
 unfoldable pub timeTold : Answer TimeOfDay → LnavTime
 timeTold a =

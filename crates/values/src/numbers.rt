@@ -20,7 +20,7 @@ pub(crate) fn whole(z: i32) -> i64
     z as i64
 }
 
-fn between_them(low: i64, high: i64, z: i64) -> bool
+fn is_between(low: i64, high: i64, z: i64) -> bool
     ensures { λ r. ⌜ r ≡ between low high z ⌝ }
 {
     if low <= z {
@@ -33,7 +33,7 @@ fn between_them(low: i64, high: i64, z: i64) -> bool
 fn natural_of(z: i64) -> u32
     ensures { λ n. ⌜ n ≡ natural32 z ⌝ }
 {
-    if between_them(0, 4294967295, z) {
+    if is_between(0, 4294967295, z) {
         z as u32
     } else {
         0
@@ -44,7 +44,7 @@ fn natural_of(z: i64) -> u32
 fn whole_of(z: i64) -> i32
     ensures { λ v. ⌜ (v ≡ whole32 z) × SFits w32 v ⌝ }
 {
-    if between_them(-2147483648, 2147483647, z) {
+    if is_between(-2147483648, 2147483647, z) {
         z as i32
     } else {
         0

@@ -8,7 +8,7 @@ use Rattle.clock.specs.Accuracy.{predicted, givenAccuracyAnswer}
 use Rattle.clock.specs.declared.ura.GivenAccuracy.{GivenAccuracy}
 use Rattle.clock.specs.declared.ura.GivenAccuracy.the-variants.{Given}
 use Rattle.exports.specs.declared.answers.LnavAnswer.{LnavAnswer}
-use Rattle.exports.specs.Told.{told, acceptedTold, fromValue, zero, isPredicted, metres, accuracyTold}
+use Rattle.exports.specs.Told.{told, acceptedTold, fromValue, plusZero, isPredicted, metres, accuracyTold}
 use Rattle.exports.proofs.clock_questions.told_accuracy.Statement.{statement}
 use Rattle.exports.proofs.clock_questions.told_accuracy.Tie as tie
 
@@ -21,11 +21,11 @@ returns c =
     ∙ sym (ap (λ (x : GivenAccuracy). accuracyTold (givenAccuracyAnswer x)) (g .g .given .1 ∙ ap Given (d .a .given .1)))
 
 returns-2 : tie.Need-returns-2
-unfolding predicted givenAccuracyAnswer accuracyTold told acceptedTold fromValue zero isPredicted metres number detail Option·elim
+unfolding predicted givenAccuracyAnswer accuracyTold told acceptedTold fromValue plusZero isPredicted metres number detail Option·elim
 returns-2 c =
     let d = c .before in
     let g = d .before .before .before in
-    ap (λ (a : LnavAnswer). record { answer = a; predicted = false; metres = zero }) (c .accepted2 .ensures)
+    ap (λ (a : LnavAnswer). record { answer = a; predicted = false; metres = plusZero }) (c .accepted2 .ensures)
     ∙ sym (ap (λ (x : GivenAccuracy). accuracyTold (givenAccuracyAnswer x)) (g .g .given .1 ∙ ap Given (d .enum-told .given .1)))
 
 returns-3 : tie.Need-returns-3

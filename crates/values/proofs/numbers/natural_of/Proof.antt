@@ -11,15 +11,15 @@ use Rattle.values.specs.Values.{between, natural32}
 use Rattle.values.proofs.numbers.natural_of.Statement.{statement}
 use Rattle.values.proofs.numbers.natural_of.Tie as tie
 
-module _ (c : tie.After-between-them) where
+module _ (c : tie.After-is-between) where
   abbrev z : ℤ
   z = c .before .args .z
 
   is : toZ w64 (ofZ w64 z) ≡ z
   is = toZ-ofZ w64 z (c .before .fits .z)
 
-  test : (b : Bool) → c .between-them .result ≡ b → between (pos 0) (pos 4294967295) z ≡ b
-  test b e = sym (c .between-them .ensures ∙ ap (between (pos 0) (pos 4294967295)) is) ∙ e
+  test : (b : Bool) → c .is-between .result ≡ b → between (pos 0) (pos 4294967295) z ≡ b
+  test b e = sym (c .is-between .ensures ∙ ap (between (pos 0) (pos 4294967295)) is) ∙ e
 
 cast-result : tie.Need-cast-result
 cast-result c = rw (is (c .before)) (natural-fits (z (c .before)) (test (c .before) true (c .if1 .taken)))

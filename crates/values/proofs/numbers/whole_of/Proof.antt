@@ -12,15 +12,15 @@ use Rattle.values.specs.Values.{between, whole32}
 use Rattle.values.proofs.numbers.whole_of.Statement.{statement}
 use Rattle.values.proofs.numbers.whole_of.Tie as tie
 
-module _ (c : tie.After-between-them) where
+module _ (c : tie.After-is-between) where
   abbrev z : ℤ
   z = c .before .args .z
 
   is : toZ w64 (ofZ w64 z) ≡ z
   is = toZ-ofZ w64 z (c .before .fits .z)
 
-  test : (b : Bool) → c .between-them .result ≡ b → between (negsuc 2147483647) (pos 2147483647) z ≡ b
-  test b e = sym (c .between-them .ensures ∙ ap (between (negsuc 2147483647) (pos 2147483647)) is) ∙ e
+  test : (b : Bool) → c .is-between .result ≡ b → between (negsuc 2147483647) (pos 2147483647) z ≡ b
+  test b e = sym (c .is-between .ensures ∙ ap (between (negsuc 2147483647) (pos 2147483647)) is) ∙ e
 
 fits : (c : tie.Then1) → SFits w32 (toZ w64 (ofZ w64 (z (c .before))))
 fits c = subst (λ (x : ℤ). SFits w32 x) (sym (is (c .before))) (whole-fits (z (c .before)) (test (c .before) true (c .if1 .taken)))

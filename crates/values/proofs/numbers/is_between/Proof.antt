@@ -1,4 +1,4 @@
--- `between_them` meets its contract.
+-- `is_between` meets its contract.
 use mathlib.Core.Path.{_≡_, sym, _∙_}
 use mathlib.Core.Bool.{true, false}
 use lib.IntN.{ℤ}
@@ -7,8 +7,8 @@ use mir.Syntax.{w64}
 use mir.Val.{SFits, toZ, ofZ}
 use mir.ValLaws.{toZ-ofZ}
 use Rattle.values.specs.Values.{between}
-use Rattle.values.proofs.numbers.between_them.Statement.{statement}
-use Rattle.values.proofs.numbers.between_them.Tie as tie
+use Rattle.values.proofs.numbers.is_between.Statement.{statement}
+use Rattle.values.proofs.numbers.is_between.Tie as tie
 
 -- the machine's test is that of the numbers
 as-numbers : (a b : ℤ) → SFits w64 a → SFits w64 b → leZ (toZ w64 (ofZ w64 a)) (toZ w64 (ofZ w64 b)) ≡ leZ a b
@@ -28,5 +28,5 @@ returns-2 c =
     let low : leZ (s .args .low) (s .args .z) ≡ false = sym (as-numbers (s .args .low) (s .args .z) (s .fits .low) (s .fits .z)) ∙ c .if1 .left in
     sym (rw low)
 
-pub between-them-spec : {M : Type 1} → statement M
-between-them-spec = tie.close (tie.spec returns returns-2)
+pub is-between-spec : {M : Type 1} → statement M
+is-between-spec = tie.close (tie.spec returns returns-2)
