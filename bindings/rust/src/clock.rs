@@ -1,6 +1,6 @@
 // Clock terms and accuracy of a subframe 1.
+use crate::fields::Subframe1;
 use crate::raw;
-use crate::record::Subframe1;
 use crate::refusal::Refusal;
 
 /// The clock terms, each exactly the field times its scale.

@@ -1,6 +1,6 @@
 // The collector: what is given of the blocks of a log that were fed.
+use crate::fields::{AlmanacPage, Subframe1, Subframe2, Subframe3, UtcPage};
 use crate::raw;
-use crate::record::{AlmanacPage, Subframe1, Subframe2, Subframe3, UtcPage};
 use crate::refusal::Refusal;
 
 /// A satellite's set: the latest subframes 1, 2 and 3, of one issue, with the first health bit clear.

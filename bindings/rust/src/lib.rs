@@ -27,8 +27,9 @@ mod block;
 mod clock;
 mod collector;
 mod ffi;
+pub mod fields;
 pub mod raw;
-pub mod record;
+mod record;
 mod refusal;
 mod time;
 
@@ -37,9 +38,8 @@ pub use block::{
 };
 pub use clock::{accuracy, clock_terms, Accuracy, ClockTerms};
 pub use collector::{History, OrbitSet};
-pub use record::{
-    AlmanacPage, Header, OtherPage, Record, Subframe1, Subframe2, Subframe3, UtcPage,
-};
+pub use fields::{AlmanacPage, Header, OtherPage, Subframe1, Subframe2, Subframe3, UtcPage};
+pub use record::Record;
 pub use refusal::Refusal;
 pub use time::{time_of_day, TimeOfDay};
 

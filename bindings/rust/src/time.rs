@@ -1,6 +1,6 @@
 // From a GPS second to UTC.
+use crate::fields::UtcPage;
 use crate::raw;
-use crate::record::UtcPage;
 use crate::refusal::Refusal;
 
 /// A UTC time of day.

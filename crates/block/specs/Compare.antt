@@ -8,7 +8,7 @@ use lib.ListN.{length, getD}
 use Rattle.bits.specs.Bits.{_⊕_, Bits, AreBits, bitsAt, xor, inverse, weight}
 use Rattle.bits.specs.First.{firstFrom}
 use Rattle.bits.specs.Tabulate.{tabulate}
-use Rattle.parity.specs.Word.{syndrome}
+use Rattle.parity.specs.Word.{sourceBit, syndrome}
 use Rattle.answer.specs.Answer.{Answer, accepted, refused}
 use Rattle.block.specs.Block.{Block, window, preamble, count, subframeNumber, endsAlike}
 use Rattle.block.specs.Check.{blockCheck}
@@ -45,6 +45,18 @@ Equal b c = (i : ℕ) → i < 302 → b i ≡ c i
 -- the second is the first with 0 and 1 swapped in all 302 bytes
 abbrev pub Inverse : Block → Block → Type 0
 Inverse b c = Equal c (inverse b)
+
+-- the two blocks have the same source bits, word by word
+abbrev pub SameWords : Block → Block → Type 0
+SameWords b c = (k : ℕ) → 1 ≤ k → k ≤ 10 → (i : ℕ) → 1 ≤ i → i ≤ 24 → sourceBit (window b k) i ≡ sourceBit (window c k) i
+
+-- source bit i of word k is no filler, which are bits 23 and 24 of words 2 and 10
+abbrev pub NoFiller : ℕ → ℕ → Type 0
+NoFiller k i = (k ≡ 2 → i ≤ 22) × (k ≡ 10 → i ≤ 22)
+
+-- the two blocks have the same source bits but for the fillers
+abbrev pub SameMessage : Block → Block → Type 0
+SameMessage b c = (k : ℕ) → 1 ≤ k → k ≤ 10 → (i : ℕ) → 1 ≤ i → i ≤ 24 → NoFiller k i → sourceBit (window b k) i ≡ sourceBit (window c k) i
 
 -- ---- flipped bits: f has a 1 at each of them
 

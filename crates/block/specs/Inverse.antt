@@ -14,9 +14,9 @@ use Rattle.parity.specs.Word.{sourceBit}
 use Rattle.parity.specs.Local.{syndrome-local}
 use Rattle.parity.specs.Inverse.{syndrome-inverse, sourceBit-inverse}
 use Rattle.block.specs.Block.{Block, window, field, preamble, count, subframeNumber, endsAlike, source}
-use Rattle.block.specs.Compare.{Accepted, Conforms, Inverse}
+use Rattle.block.specs.Compare.{Accepted, Conforms, Inverse, SameWords}
 use Rattle.block.specs.Acceptance.{acceptance}
-use Rattle.block.specs.Source.{SameWords, source-words}
+use Rattle.block.specs.Source.{source-words}
 
 module _ (b c : Block) (swapped : Inverse b c) where
   pub inverse-bits : AreBits 302 c

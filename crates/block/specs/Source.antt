@@ -10,18 +10,7 @@ use Rattle.bits.specs.Pack.{pack-equal}
 use Rattle.bits.specs.Tabulated.{tabulate-same, tabulate-at}
 use Rattle.parity.specs.Word.{sourceBit}
 use Rattle.block.specs.Block.{Block, window, field, source}
-
--- the two blocks have the same source bits, word by word
-abbrev pub SameWords : Block → Block → Type 0
-SameWords b c = (k : ℕ) → 1 ≤ k → k ≤ 10 → (i : ℕ) → 1 ≤ i → i ≤ 24 → sourceBit (window b k) i ≡ sourceBit (window c k) i
-
--- source bit i of word k is no filler, which are bits 23 and 24 of words 2 and 10
-abbrev pub NoFiller : ℕ → ℕ → Type 0
-NoFiller k i = (k ≡ 2 → i ≤ 22) × (k ≡ 10 → i ≤ 22)
-
--- the two blocks have the same source bits but for the fillers
-abbrev pub SameMessage : Block → Block → Type 0
-SameMessage b c = (k : ℕ) → 1 ≤ k → k ≤ 10 → (i : ℕ) → 1 ≤ i → i ≤ 24 → NoFiller k i → sourceBit (window b k) i ≡ sourceBit (window c k) i
+use Rattle.block.specs.Compare.{SameWords}
 
 -- source bit i of word k
 pub source-at : (b : Block) (k : ℕ) → 1 ≤ k → k ≤ 10 → (i : ℕ) → 1 ≤ i → i ≤ 24

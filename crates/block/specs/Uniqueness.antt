@@ -12,10 +12,10 @@ use Rattle.parity.specs.Word.{sourceBit}
 use Rattle.parity.specs.OneWord.{one-word}
 use Rattle.parity.specs.Fillers.{by-fillers, same-fillers}
 use Rattle.block.specs.Block.{Block, window, endsAlike, source}
-use Rattle.block.specs.Compare.{Stands, Accepted, Conforms, Equal, Inverse}
+use Rattle.block.specs.Compare.{Stands, Accepted, Conforms, Equal, Inverse, SameWords, SameMessage}
 use Rattle.block.specs.Windows.{by-windows}
 use Rattle.block.specs.Acceptance.{word-passes, ends-pair, acceptance}
-use Rattle.block.specs.Source.{SameWords, SameMessage, source-words}
+use Rattle.block.specs.Source.{source-words}
 use Rattle.block.specs.Inverse.{inverse-bits, inverse-words, inverse-conforms}
 
 -- words 2 and 10 end as the start pair

@@ -1,5 +1,3 @@
 -- The files of this folder: the definitions, then the laws.
 pub mod Told
-pub mod Fed
-pub mod Least
 pub mod ReadAgain

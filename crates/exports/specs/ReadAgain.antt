@@ -11,10 +11,10 @@ use Rattle.block.specs.declared.polarity.Polarity.{Polarity}
 use Rattle.block.specs.declared.polarity.Polarity.the-variants.{Upright, Inverted}
 use Rattle.reader.specs.Reading.{reading}
 use Rattle.reader.specs.Readings.{reads-writable}
-use Rattle.record.specs.Taken.{taken}
 use Rattle.record.specs.declared.record.Record.{Record}
-use Rattle.values.specs.OwnValues.{own-values}
-use Rattle.values.specs.Values.{valuesOf, kindNumber, recordQuestion}
+use Rattle.from_values.specs.OwnValues.{own-values}
+use Rattle.values.specs.Values.{valuesOf, kindNumber}
+use Rattle.from_values.specs.FromValues.{recordQuestion}
 use Rattle.writer.specs.RoundTrip.{rewritten}
 use Rattle.writer.specs.Writing.{writing, bufferAfter}
 use Rattle.exports.specs.Told.{fromValue, andThen, isInverted, polarityWith}
@@ -27,7 +27,7 @@ same-polarity Inverted = refl
 module _ (s : List ℕ) (p : ℕ) (r : Record) (e : reading s p ≡ accepted r) where
   -- the kind and the values of a record that was read are those of that record
   pub read-values : recordQuestion (kindNumber r) (valuesOf r) ≡ accepted r
-  read-values = own-values r (taken r (reads-writable s p r e))
+  read-values = own-values r (reads-writable s p r e)
 
   -- the answer of lnav_write for them, and the buffer after it
   pub written-again : (buffer : List ℕ) → 302 ≤ length buffer

@@ -1,16 +1,19 @@
 -- Definitions. What an answer says as plain numbers: its number and detail, then its value, 0 where it is refused.
 use mathlib.Core.Bool.{Bool, true, false}
+use mathlib.Core.List.{List}
 use mathlib.Core.Option.{Option, Option·elim}
 use Prim.Native.Nat.{ℕ}
+use lib.IntN.{ℤ}
 use lib.Ieee.{Float, ofBits, binary64}
 use Rattle.answer.specs.Answer.{Answer, accepted, refused, number, detail}
 use Rattle.answer.specs.declared.Refusal.{Refusal}
 use Rattle.block.specs.declared.polarity.Polarity.{Polarity}
 use Rattle.block.specs.declared.polarity.Polarity.the-variants.{Upright, Inverted}
 use Rattle.clock.specs.declared.terms.ClockTerms.{ClockTerms}
+use Rattle.collector.specs.declared.set.OrbitSet.{OrbitSet}
 use Rattle.record.specs.declared.record.Record.{Record}
 use Rattle.utc.specs.declared.day.TimeOfDay.{TimeOfDay}
-use Rattle.values.specs.Values.{kindNumber}
+use Rattle.values.specs.Values.{valuesOfSubframe1, valuesOfSubframe2, valuesOfSubframe3, kindNumber}
 use Rattle.exports.specs.declared.answers.LnavAnswer.{LnavAnswer}
 use Rattle.exports.specs.declared.blocks.LnavFound.{LnavFound}
 use Rattle.exports.specs.declared.blocks.LnavReading.{LnavReading}
@@ -84,3 +87,14 @@ timeTold a =
       minute = fromValue 0 (λ t. t .minute) a;
       second = fromValue 0 (λ t. t .second) a;
     }
+
+-- ---- the values of the records of a set
+
+unfoldable pub setSubframe1 : OrbitSet → List ℤ
+setSubframe1 o = valuesOfSubframe1 (o .subframe1)
+
+unfoldable pub setSubframe2 : OrbitSet → List ℤ
+setSubframe2 o = valuesOfSubframe2 (o .subframe2)
+
+unfoldable pub setSubframe3 : OrbitSet → List ℤ
+setSubframe3 o = valuesOfSubframe3 (o .subframe3)

@@ -4,9 +4,9 @@ use crate::answers::accepted;
 use crate::answers::answer_of;
 use crate::answers::refused;
 use block::Polarity;
+use from_values::GivenRecord;
 use reader::Reading;
 use search::Found;
-use values::GivenRecord;
 ghost use mathlib.Core.Path.{_≡_};
 ghost use Rattle.bits.specs.Bits.{bitsAt};
 ghost use Rattle.block.specs.Check.{blockCheck};
@@ -14,7 +14,8 @@ ghost use Rattle.block.specs.Polarity.{polarityOf};
 ghost use Rattle.reader.specs.Reading.{reading};
 ghost use Rattle.search.specs.Search.{searching};
 ghost use Rattle.writer.specs.Writing.{writing, bufferAfter};
-ghost use Rattle.values.specs.Values.{valuesOf, recordQuestion};
+ghost use Rattle.values.specs.Values.{valuesOf};
+ghost use Rattle.from_values.specs.FromValues.{recordQuestion};
 ghost use Rattle.exports.specs.Told.{told, fromValue, andThen, foundTold, readingTold, isInverted, polarityWith};
 
 // A place, as the search answers it.
@@ -107,7 +108,7 @@ pub extern "C" fn lnav_write(
 ) -> LnavAnswer
     ensures { λ r. ⌜ (r ≡ told (andThen (recordQuestion kind (now (values .entry))) (λ s. writing s (now (block .entry))))) × (now (block .exit) ≡ fromValue (now (block .entry)) (λ s. bufferAfter s (polarityWith inverted) (now (block .entry))) (recordQuestion kind (now (values .entry)))) ⌝ }
 {
-    match values::record_with(kind, values) {
+    match from_values::record_with(kind, values) {
         GivenRecord::Given(r) => answer_of(writer::write(r, polarity_with(inverted), block)),
         GivenRecord::Refused(r) => refused(r),
     }

@@ -6,12 +6,12 @@ use answer::Refusal;
 use clock::GivenAccuracy;
 use clock::GivenTerms;
 use clock::UserRangeAccuracy;
-use values::GivenSubframe1;
+use from_values::GivenSubframe1;
 ghost use mathlib.Core.Path.{_≡_};
 ghost use Rattle.answer.specs.Answer.{refusalAnswer};
 ghost use Rattle.clock.specs.Accuracy.{givenAccuracyAnswer, accuracyQuestion};
 ghost use Rattle.clock.specs.Terms.{givenTermsAnswer, termsQuestion};
-ghost use Rattle.values.specs.Values.{subframe1Question};
+ghost use Rattle.from_values.specs.FromValues.{subframe1Question};
 ghost use Rattle.exports.specs.Told.{andThen, termsTold, accuracyTold};
 
 // The four clock terms.
@@ -64,7 +64,7 @@ fn told_terms(g: GivenTerms) -> LnavTerms
 pub extern "C" fn lnav_clock_terms(values: &[i64; 25]) -> LnavTerms
     ensures { λ t. ⌜ t ≡ termsTold (andThen (subframe1Question (now (values .entry))) termsQuestion) ⌝ }
 {
-    match values::subframe1_with(values) {
+    match from_values::subframe1_with(values) {
         GivenSubframe1::Given(s) => told_terms(clock::clock_terms(s)),
         GivenSubframe1::Refused(r) => refused_terms(r),
     }
@@ -105,7 +105,7 @@ fn told_accuracy(g: GivenAccuracy) -> LnavRangeAccuracy
 pub extern "C" fn lnav_accuracy(values: &[i64; 25]) -> LnavRangeAccuracy
     ensures { λ t. ⌜ t ≡ accuracyTold (andThen (subframe1Question (now (values .entry))) accuracyQuestion) ⌝ }
 {
-    match values::subframe1_with(values) {
+    match from_values::subframe1_with(values) {
         GivenSubframe1::Given(s) => told_accuracy(clock::accuracy(s)),
         GivenSubframe1::Refused(r) => refused_accuracy(r),
     }

@@ -1,4 +1,5 @@
-// The collector as a history: blocks of one log are fed one after the other to the empty collector, then a question is answered.
+// A feed, and the questions to the collector after a history: blocks of one log are fed one after the other to the empty collector, then a
+// question is answered.
 use crate::answers::LnavAnswer;
 use crate::answers::accepted;
 use crate::answers::answer_of;
@@ -7,35 +8,14 @@ use collector::Collector;
 use collector::GivenAlmanac;
 use collector::GivenSet;
 use collector::GivenUtc;
+use histories::collected;
 use record::Record;
 ghost use mathlib.Core.Path.{_≡_};
 ghost use Rattle.answer.specs.Answer.{outcome};
 ghost use Rattle.collector.specs.Feed.{feeding};
-ghost use Rattle.collector.specs.History.{reached};
+ghost use Rattle.histories.specs.FromSlices.{setAfter, almanacPageAfter, utcPageAfter};
 ghost use Rattle.values.specs.Values.{valuesOfAlmanac, valuesOfUtc};
-ghost use Rattle.exports.specs.Told.{told, fromValue};
-ghost use Rattle.exports.specs.Fed.{least, history, setAfter, almanacPageAfter, utcPageAfter, setSubframe1, setSubframe2, setSubframe3};
-
-fn least_of(a: usize, b: usize) -> usize
-    ensures { λ r. ⌜ r ≡ least a b ⌝ }
-{
-    if a < b { a } else { b }
-}
-
-// The collector after the feeds of the blocks at these places for these satellites, as far as both slices go.
-fn collected(log: &[u8], places: &[usize], satellites: &[usize]) -> Collector
-    ensures { λ c. ⌜ c ≡ reached (history (now (log .entry)) (now (places .entry)) (now (satellites .entry))) ⌝ }
-{
-    let count = least_of(places.len(), satellites.len());
-    let mut c = Collector::empty();
-    let mut i: usize = 0;
-    while i < count {
-        let fed = c.feed(log, places[i], satellites[i]);
-        c = fed.collector;
-        i += 1;
-    }
-    c
-}
+ghost use Rattle.exports.specs.Told.{told, fromValue, setSubframe1, setSubframe2, setSubframe3};
 
 // What a feed of the block at a place of a log answers.
 #[no_mangle]

@@ -3,12 +3,12 @@ use crate::answers::LnavAnswer;
 use crate::answers::accepted;
 use crate::answers::refused;
 use answer::Refusal;
+use from_values::GivenUtcPage;
 use utc::GivenTime;
-use values::GivenUtcPage;
 ghost use mathlib.Core.Path.{_≡_};
 ghost use Rattle.answer.specs.Answer.{refusalAnswer};
 ghost use Rattle.utc.specs.Time.{givenTimeAnswer, timeQuestion};
-ghost use Rattle.values.specs.Values.{utcPageQuestion};
+ghost use Rattle.from_values.specs.FromValues.{utcPageQuestion};
 ghost use Rattle.exports.specs.Told.{andThen, timeTold};
 
 // A time of day.
@@ -50,7 +50,7 @@ fn told_time(g: GivenTime) -> LnavTime
 pub extern "C" fn lnav_time_of_day(values: &[i64; 25], week: u32, second: u32) -> LnavTime
     ensures { λ t. ⌜ t ≡ timeTold (andThen (utcPageQuestion (now (values .entry))) (λ page. timeQuestion page week second)) ⌝ }
 {
-    match values::utc_page_with(values) {
+    match from_values::utc_page_with(values) {
         GivenUtcPage::Given(page) => told_time(utc::time_of_day(page, week, second)),
         GivenUtcPage::Refused(r) => refused_time(r),
     }

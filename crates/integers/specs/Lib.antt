@@ -3,3 +3,4 @@ pub mod Whole
 pub mod Sizes
 pub mod Modulo
 pub mod Machine
+pub mod BySign

@@ -55,6 +55,20 @@ of-width w z h = record { is = refl; le = natAbs-le z (h .sfits) }
 pub cast-of : (w : Width) {x : ℤ} (k : ℕ) → x ≡ pos k → Fits w k → T (nonNeg x) × Fits w (natAbs x)
 cast-of w k e h = rw e (tt, h)
 
+-- ---- through the machine's bits, for every signed width
+
+-- a number that fits is what its bits stand for
+pub as-is : (w : Width) (z : ℤ) → mag z < 2 ^ hbits w → toZ w (ofZ w z) ≡ z
+as-is w z h = toZ-ofZ w z (record { sfits = h })
+
+-- a call's signed result, as it stands in a struct or an array
+pub as-held : {w : Width} {z v : ℤ} → (z ≡ v) × SFits w z → toZ w (ofZ w z) ≡ v
+as-held {w} {z} e = toZ-ofZ w z (e .1) ∙ e .0
+
+-- what a call gives for a signed number that was handed to it
+pub of-handed : {A : Type 0} (w : Width) (f : ℤ → A) (z : ℤ) {a : A} → a ≡ f (toZ w (ofZ w z)) → mag z < 2 ^ hbits w → a ≡ f z
+of-handed w f z e h = e ∙ ap f (as-is w z h)
+
 -- numbers with the same bits are equal
 pub same-bits : (w : Width) (a b : ℤ) → SFits w a → SFits w b → ofZ w a ≡ ofZ w b → a ≡ b
 same-bits w a b h k e = sym (toZ-ofZ w a h) ∙ ap (toZ w) e ∙ toZ-ofZ w b k

@@ -2,7 +2,7 @@
 use mathlib.Core.Bool.{Bool, true, cond, _&&_}
 use mathlib.Core.List.{List, [], _∷_}
 use Prim.Native.Nat.{ℕ, _+_, _-_}
-use lib.Dec.{ltb}
+use lib.Dec.{ltb, leb}
 use Rattle.bits.specs.Bits.{Bits, bitsAt}
 use Rattle.layout.specs.Field.{Field, width, Value, readField, fieldBits, within}
 
@@ -14,6 +14,11 @@ Layout = List Field
 unfoldable pub size : Layout → ℕ
 size [] = 0
 size (f ∷ l) = width f + size l
+
+-- each field has 1 to 32 bits
+unfoldable pub widths1to32 : Layout → Bool
+widths1to32 [] = true
+widths1to32 (f ∷ l) = (leb 1 (width f) && leb (width f) 32) && widths1to32 l
 
 -- a value for each field
 abbrev pub Values : Layout → Type 0

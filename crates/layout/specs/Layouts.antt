@@ -11,13 +11,8 @@ use lib.ListN.{getD}
 use Rattle.bits.specs.Bits.{bitsAt, unpack}
 use Rattle.bits.specs.Tests.{and-true}
 use Rattle.layout.specs.Field.{Field, width, fieldBits, within}
-use Rattle.layout.specs.Layout.{Layout, size, Values, decode, encode, allWithin}
+use Rattle.layout.specs.Layout.{Layout, size, widths1to32, Values, decode, encode, allWithin}
 use Rattle.layout.specs.Fields.{read-bits, bits-read, read-within, read-same}
-
--- each field has 1 to 32 bits
-unfoldable pub widths1to32 : Layout → Bool
-widths1to32 [] = true
-widths1to32 (f ∷ l) = (leb 1 (width f) && leb (width f) 32) && widths1to32 l
 
 pub widths1to32-first : (f : Field) (l : Layout) → widths1to32 (f ∷ l) ≡ true → (1 ≤ width f) × (width f ≤ 32) × (widths1to32 l ≡ true)
 unfolding widths1to32

@@ -6,4 +6,3 @@ pub mod Fields
 pub mod Signs
 pub mod Layouts
 pub mod Tables
-pub mod Machine

@@ -14,8 +14,8 @@ use Rattle.bits.specs.Tests.{everyBelow-first}
 use Rattle.bits.specs.Tabulated.{tabulate-at}
 use Rattle.layout.specs.Field.{width, valueOf, readField, fieldBits}
 use Rattle.layout.specs.Fields.{number-within}
-use Rattle.layout.specs.Layouts.{widths1to32, widths1to32-first, encode-head, encode-tail}
-use Rattle.layout.specs.Layout.{Layout, size, Values, decode, encode, allWithin}
+use Rattle.layout.specs.Layouts.{widths1to32-first, encode-head, encode-tail}
+use Rattle.layout.specs.Layout.{Layout, size, widths1to32, Values, decode, encode, allWithin}
 use Rattle.layout.specs.Table.{widths, numbers, valuesFrom, offset, numbersAt, StandIn, allFit}
 
 -- ---- the widths

@@ -1,11 +1,11 @@
 -- Definitions. The word for a pair and 24 source bits, and the two fillers that give a word a wanted ending.
 use mathlib.Core.Path.{_≡_}
-use mathlib.Core.Bool.{cond}
+use mathlib.Core.Bool.{true, cond}
 use Prim.Native.Nat.{ℕ, zero, suc, _-_, _<_, _≤_}
 use lib.Dec.{eqb, ltb}
-use Rattle.bits.specs.Bits.{_⊕_, Bits, unpack}
+use Rattle.bits.specs.Bits.{_⊕_, Bits, AreBits, unpack}
 use Rattle.parity.specs.Table.{line}
-use Rattle.parity.specs.Word.{Window, receivedBit, sourceBit, parityBit}
+use Rattle.parity.specs.Word.{Window, receivedBit, sourceBit, parityBit, passes}
 
 -- s 1 to s 24 are source bits: each is 0 or 1
 abbrev pub AreSource : Bits → Type 0
@@ -45,3 +45,12 @@ filler23 p q s a b = (receivedBit (encode p q (withFillers s 0 0)) 30 ⊕ b) ⊕
 -- the word with those fillers
 unfoldable pub encodeEnding : ℕ → ℕ → Bits → ℕ → ℕ → Window
 encodeEnding p q s a b = encode p q (withFillers s (filler23 p q s a b) (filler24 p q s a))
+
+-- w passes, has the pair p, q and source bits 1 to 22 of s, and ends with a and b
+pub record Ending (p q : ℕ) (s : Bits) (a b : ℕ) (w : Window) : Type 0 where
+  pub bits : AreBits 32 w
+  pub pass : passes w ≡ true
+  pub pairP : w 0 ≡ p
+  pub pairQ : w 1 ≡ q
+  pub source : (i : ℕ) → 1 ≤ i → i ≤ 22 → sourceBit w i ≡ s i
+  pub ends : (receivedBit w 29 ≡ a) × (receivedBit w 30 ≡ b)

@@ -13,7 +13,7 @@ use Rattle.bits.specs.Every.{everyBelow}
 use Rattle.bits.specs.Tests.{equal-below₂}
 use Rattle.parity.specs.Table.{table, line}
 use Rattle.parity.specs.Word.{Window, receivedBit, sourceBit, sourceSum, parityBit, passes}
-use Rattle.parity.specs.Encode.{AreSource, dataBits, encode, withFillers, filler23, filler24, encodeEnding}
+use Rattle.parity.specs.Encode.{AreSource, dataBits, encode, withFillers, filler23, filler24, encodeEnding, Ending}
 use Rattle.parity.specs.Linear.{parityBit-linear}
 use Rattle.parity.specs.Local.{parityBit-local}
 use Rattle.parity.specs.OneWord.{encode-parity, encode-same, encode-passes, encode-bits, encode-carries, encode-only}
@@ -126,15 +126,6 @@ module _ (p q : ℕ) (s t : Bits) (same : (i : ℕ) → 1 ≤ i → i ≤ 22 →
       ∙ (λ i. encode p q (withFillers t ((bit30 i ⊕ b) ⊕ (bit29 i ⊕ a)) (bit29 i ⊕ a)) j)
 
 -- ---- the word with the fillers of the formulas
-
--- w passes, has the pair p, q and source bits 1 to 22 of s, and ends with a and b
-pub record Ending (p q : ℕ) (s : Bits) (a b : ℕ) (w : Window) : Type 0 where
-  pub bits : AreBits 32 w
-  pub pass : passes w ≡ true
-  pub pairP : w 0 ≡ p
-  pub pairQ : w 1 ≡ q
-  pub source : (i : ℕ) → 1 ≤ i → i ≤ 22 → sourceBit w i ≡ s i
-  pub ends : (receivedBit w 29 ≡ a) × (receivedBit w 30 ≡ b)
 
 module _ (p q : ℕ) (s : Bits) (bp : p < 2) (bq : q < 2) (bs : AreSource s) (a b : ℕ) (ba : a < 2) (bb : b < 2) where
   abbrev x : ℕ

@@ -13,9 +13,9 @@ use Rattle.answer.specs.Answer as Answer
 use Rattle.answer.specs.Lines.{accepted-injective}
 use Rattle.parity.specs.Word.{sourceBit}
 use Rattle.block.specs.Block.{Block, window, preamble, source}
-use Rattle.block.specs.Compare.{Accepted, Equal, Inverse}
+use Rattle.block.specs.Compare.{Accepted, Equal, Inverse, SameMessage}
 use Rattle.block.specs.Acceptance.{acceptance}
-use Rattle.block.specs.Source.{SameMessage, source-at, source-field}
+use Rattle.block.specs.Source.{source-at, source-field}
 use Rattle.block.specs.Inverse.{inverse-accepted}
 use Rattle.block.specs.Uniqueness.{message-unique, uniqueness}
 use Rattle.record.specs.Source.{recordOf}

@@ -1,7 +1,11 @@
 -- Definitions. The fields of the header and of each kind (document 01, 'Words 1 and 2' and 'Fields of words 3 to 10'), in document 01's order.
+use mathlib.Core.Path.{_≡_}
+use mathlib.Core.Bool.{true}
 use mathlib.Core.List.{[], _∷_}
+use Prim.Native.Nat.{ℕ, _≤_}
+use lib.ListN.{length}
 use Rattle.layout.specs.Field.{u, s}
-use Rattle.layout.specs.Layout.{Layout}
+use Rattle.layout.specs.Layout.{Layout, size, widths1to32}
 use Rattle.record.specs.declared.kind.Kind.{Kind}
 use Rattle.record.specs.declared.kind.Kind.the-variants.{Subframe1, Subframe2, Subframe3, Almanac, Utc, Other}
 
@@ -40,3 +44,9 @@ fieldsOf Subframe3 = subframe3Fields
 fieldsOf Almanac = almanacFields
 fieldsOf Utc = utcFields
 fieldsOf Other = otherFields
+
+-- n bits in all, at most 19 fields, and each of 1 to 32 bits
+pub record Sound (n : ℕ) (l : Layout) : Type 0 where
+  pub bits : size l ≡ n
+  pub few : length l ≤ 19
+  pub widths-right : widths1to32 l ≡ true

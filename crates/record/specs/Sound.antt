@@ -7,22 +7,16 @@ use borrow.Author.Tests.{eqb-true, leb-true}
 use lib.Dec.{eqb, leb}
 use lib.ListN.{length, getD}
 use Rattle.bits.specs.Tests.{and-true}
-use Rattle.layout.specs.Layout.{Layout, size, Values, decode, encode, allWithin}
-use Rattle.layout.specs.Layouts.{widths1to32}
+use Rattle.layout.specs.Layout.{Layout, size, widths1to32, Values, decode, encode, allWithin}
 use Rattle.layout.specs.Table.{widths, numbers, valuesFrom, offset, numbersAt, StandIn, allFit}
 use Rattle.layout.specs.Tables.{offset-size, widths-most, table-values, stand-encode, fit-within}
-use Rattle.record.specs.Fields.{headerFields, fieldsOf}
+use Rattle.record.specs.Fields.{headerFields, fieldsOf, Sound}
 use Rattle.record.specs.declared.kind.Kind.{Kind}
 use Rattle.record.specs.declared.kind.Kind.the-variants.{Subframe1, Subframe2, Subframe3, Almanac, Utc, Other}
 
 -- n bits in all, at most 19 fields, and each of 1 to 32 bits
 isSound : ℕ → Layout → Bool
 isSound n l = eqb (size l) n && (leb (length l) 19 && widths1to32 l)
-
-pub record Sound (n : ℕ) (l : Layout) : Type 0 where
-  pub bits : size l ≡ n
-  pub few : length l ≤ 19
-  pub widths-right : widths1to32 l ≡ true
 
 sound : (n : ℕ) (l : Layout) → isSound n l ≡ true → Sound n l
 unfolding isSound

@@ -1,6 +1,3 @@
 -- The files of this folder: the definitions, then the laws.
 pub mod Values
-pub mod Answers
 pub mod Machine
-pub mod Having
-pub mod OwnValues

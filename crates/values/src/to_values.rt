@@ -25,7 +25,7 @@ fn header_values(h: Header) -> [i64; 25]
     v
 }
 
-pub(crate) fn subframe1_values(r: Subframe1) -> [i64; 25]
+fn subframe1_values(r: Subframe1) -> [i64; 25]
     ensures { λ v. ⌜ v ≡ valuesOfSubframe1 r ⌝ }
 {
     let header = r.header;
@@ -106,7 +106,7 @@ fn almanac_values(r: AlmanacPage) -> [i64; 25]
     v
 }
 
-pub(crate) fn utc_values(r: UtcPage) -> [i64; 25]
+fn utc_values(r: UtcPage) -> [i64; 25]
     ensures { λ v. ⌜ v ≡ valuesOfUtc r ⌝ }
 {
     let header = r.header;

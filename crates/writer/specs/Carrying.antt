@@ -12,8 +12,8 @@ use Rattle.parity.specs.Local.{syndrome-local}
 use Rattle.parity.specs.Equations.{passes-syndrome}
 use Rattle.block.specs.Block.{Block, window, endsAlike}
 use Rattle.block.specs.Block as Block
-use Rattle.block.specs.Compare.{WordsPass, Equal}
-use Rattle.block.specs.Source.{NoFiller, source-at}
+use Rattle.block.specs.Compare.{WordsPass, Equal, NoFiller}
+use Rattle.block.specs.Source.{source-at}
 use Rattle.block.specs.Windows.{by-windows}
 use Rattle.writer.specs.Written.{wordSource, hasFillers, windowFrom, blockFrom}
 use Rattle.writer.specs.Words.{window-lt, window-carried, block-window}

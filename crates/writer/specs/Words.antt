@@ -14,7 +14,7 @@ use Rattle.parity.specs.Encode.{AreSource, encode, encodeEnding}
 use Rattle.parity.specs.OneWord.{encode-passes, encode-bits, encode-carries}
 use Rattle.parity.specs.Fillers.{ending}
 use Rattle.block.specs.Block.{window}
-use Rattle.block.specs.Source.{NoFiller}
+use Rattle.block.specs.Compare.{NoFiller}
 use Rattle.writer.specs.Written.{wordSource, hasFillers, wordAfter, windowFrom, blockFrom}
 
 -- w is word k of a block that carries m from the start pair a, a on, after the bits p and q

@@ -7,7 +7,8 @@ use lib.ListN.{getD}
 use Rattle.bits.specs.Bits.{Bits}
 use Rattle.layout.specs.Layout.{Layout, Values, encode}
 use Rattle.layout.specs.Table.{widths, numbers, offset, StandIn}
-use Rattle.record.specs.Sound.{Sound, table-most, table-size, table-encode}
+use Rattle.record.specs.Fields.{Sound}
+use Rattle.record.specs.Sound.{table-most, table-size, table-encode}
 use Rattle.writer.specs.Put.{Put}
 
 module _ (n : ℕ) (l : Layout) (sound : Sound n l) (ws : List ℕ) (e : ws ≡ widths 19 l) where

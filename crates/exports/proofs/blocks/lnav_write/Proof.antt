@@ -7,7 +7,7 @@ use denote.Ref.{now}
 use Rattle.answer.specs.Answer.{Answer, number, detail}
 use Rattle.block.specs.declared.polarity.Polarity.{Polarity}
 use Rattle.record.specs.declared.record.Record.{Record}
-use Rattle.values.specs.Values.{givenRecordAnswer}
+use Rattle.from_values.specs.FromValues.{givenRecordAnswer}
 use Rattle.writer.specs.Writing.{writing, bufferAfter}
 use Rattle.exports.specs.Told.{told, refusalTold, fromValue, andThen, polarityWith}
 use Rattle.exports.proofs.blocks.lnav_write.Statement.{statement}

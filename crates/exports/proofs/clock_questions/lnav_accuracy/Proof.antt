@@ -4,7 +4,7 @@ use borrow.Author.Needs.{needs}
 use Rattle.answer.specs.Answer.{Answer}
 use Rattle.clock.specs.Accuracy.{accuracyQuestion}
 use Rattle.record.specs.declared.record.Subframe1.{Subframe1}
-use Rattle.values.specs.Values.{givenSubframe1Answer}
+use Rattle.from_values.specs.FromValues.{givenSubframe1Answer}
 use Rattle.exports.specs.Told.{andThen, accuracyTold}
 use Rattle.exports.proofs.clock_questions.lnav_accuracy.Statement.{statement}
 use Rattle.exports.proofs.clock_questions.lnav_accuracy.Tie as tie

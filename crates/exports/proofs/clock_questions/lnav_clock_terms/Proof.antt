@@ -4,7 +4,7 @@ use borrow.Author.Needs.{needs}
 use Rattle.answer.specs.Answer.{Answer}
 use Rattle.clock.specs.Terms.{termsQuestion}
 use Rattle.record.specs.declared.record.Subframe1.{Subframe1}
-use Rattle.values.specs.Values.{givenSubframe1Answer}
+use Rattle.from_values.specs.FromValues.{givenSubframe1Answer}
 use Rattle.exports.specs.Told.{andThen, termsTold}
 use Rattle.exports.proofs.clock_questions.lnav_clock_terms.Statement.{statement}
 use Rattle.exports.proofs.clock_questions.lnav_clock_terms.Tie as tie

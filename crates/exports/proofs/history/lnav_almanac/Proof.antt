@@ -6,7 +6,7 @@ use Rattle.answer.specs.Answer.{number, detail}
 use Rattle.collector.specs.Questions.{givenAlmanacAnswer, almanacQuestion}
 use Rattle.collector.specs.declared.held.Collector.{Collector}
 use Rattle.values.specs.Values.{valuesOfAlmanac, valuesOf}
-use Rattle.exports.specs.Fed.{almanacPageAfter}
+use Rattle.histories.specs.FromSlices.{almanacPageAfter}
 use Rattle.exports.specs.Told.{told, acceptedTold, refusalTold, fromValue}
 use Rattle.exports.proofs.history.lnav_almanac.Statement.{statement}
 use Rattle.exports.proofs.history.lnav_almanac.Tie as tie

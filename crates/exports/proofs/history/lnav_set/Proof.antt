@@ -6,8 +6,8 @@ use Rattle.answer.specs.Answer.{number, detail}
 use Rattle.collector.specs.Questions.{givenSetAnswer, setQuestion}
 use Rattle.collector.specs.declared.held.Collector.{Collector}
 use Rattle.values.specs.Values.{valuesOf}
-use Rattle.exports.specs.Fed.{setAfter, setSubframe1, setSubframe2, setSubframe3}
-use Rattle.exports.specs.Told.{told, acceptedTold, refusalTold, fromValue}
+use Rattle.histories.specs.FromSlices.{setAfter}
+use Rattle.exports.specs.Told.{told, acceptedTold, refusalTold, fromValue, setSubframe1, setSubframe2, setSubframe3}
 use Rattle.exports.proofs.history.lnav_set.Statement.{statement}
 use Rattle.exports.proofs.history.lnav_set.Tie as tie
 

@@ -5,7 +5,7 @@ use denote.Ref.{now}
 use Rattle.answer.specs.Answer.{number, detail}
 use Rattle.collector.specs.Questions.{givenUtcAnswer, utcQuestion}
 use Rattle.values.specs.Values.{valuesOfUtc, valuesOf}
-use Rattle.exports.specs.Fed.{utcPageAfter}
+use Rattle.histories.specs.FromSlices.{utcPageAfter}
 use Rattle.exports.specs.Told.{told, acceptedTold, refusalTold, fromValue}
 use Rattle.exports.proofs.history.lnav_utc_page.Statement.{statement}
 use Rattle.exports.proofs.history.lnav_utc_page.Tie as tie

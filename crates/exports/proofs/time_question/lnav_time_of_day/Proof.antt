@@ -4,7 +4,7 @@ use borrow.Author.Needs.{needs}
 use Rattle.answer.specs.Answer.{Answer}
 use Rattle.utc.specs.Time.{timeQuestion}
 use Rattle.record.specs.declared.record.UtcPage.{UtcPage}
-use Rattle.values.specs.Values.{givenUtcPageAnswer}
+use Rattle.from_values.specs.FromValues.{givenUtcPageAnswer}
 use Rattle.exports.specs.Told.{andThen, timeTold}
 use Rattle.exports.proofs.time_question.lnav_time_of_day.Statement.{statement}
 use Rattle.exports.proofs.time_question.lnav_time_of_day.Tie as tie

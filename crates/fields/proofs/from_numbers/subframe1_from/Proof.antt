@@ -3,7 +3,7 @@
 use borrow.Author.Needs.{needs}
 use lib.ListN.{getD}
 use Rattle.layout.specs.Table.{valuesFrom}
-use Rattle.layout.specs.Machine.{in-struct}
+use Rattle.integers.specs.Machine.{as-held}
 use Rattle.fields.proofs.from_numbers.subframe1_from.Statement.{statement}
 use Rattle.fields.proofs.from_numbers.subframe1_from.Tie as tie
 
@@ -24,12 +24,12 @@ returns c =
       reserved5 = getD (a .t2) 7 0;
       reserved6 = getD (a .t2) 8 0;
       reserved7 = getD (a .t2) 9 0;
-      tgd = in-struct (c1 .signed-of .ensures) i;
+      tgd = as-held (c1 .signed-of .ensures) i;
       «iodc_low» = getD (a .t2) 11 0;
       toc = getD (a .t2) 12 0;
-      af2 = in-struct (c2 .signed-of2 .ensures) i;
-      af1 = in-struct (c3 .signed-of3 .ensures) i;
-      af0 = in-struct (c .signed-of4 .ensures) i;
+      af2 = as-held (c2 .signed-of2 .ensures) i;
+      af1 = as-held (c3 .signed-of3 .ensures) i;
+      af0 = as-held (c .signed-of4 .ensures) i;
     }
 
 pub subframe1-from-spec : {M : Type 1} → statement M

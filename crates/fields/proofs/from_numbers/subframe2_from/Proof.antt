@@ -3,7 +3,7 @@
 use borrow.Author.Needs.{needs}
 use lib.ListN.{getD}
 use Rattle.layout.specs.Table.{valuesFrom}
-use Rattle.layout.specs.Machine.{in-struct}
+use Rattle.integers.specs.Machine.{as-held}
 use Rattle.fields.proofs.from_numbers.subframe2_from.Statement.{statement}
 use Rattle.fields.proofs.from_numbers.subframe2_from.Tie as tie
 
@@ -15,12 +15,12 @@ returns c =
     λ i. record {
       header = a .header;
       iode = getD (a .t2) 0 0;
-      crs = in-struct (c1 .signed-of .ensures) i;
-      «delta_n» = in-struct (c2 .signed-of2 .ensures) i;
-      m0 = in-struct (c3 .signed-of3 .ensures) i;
-      cuc = in-struct (c4 .signed-of4 .ensures) i;
+      crs = as-held (c1 .signed-of .ensures) i;
+      «delta_n» = as-held (c2 .signed-of2 .ensures) i;
+      m0 = as-held (c3 .signed-of3 .ensures) i;
+      cuc = as-held (c4 .signed-of4 .ensures) i;
       e = getD (a .t2) 5 0;
-      cus = in-struct (c .signed-of5 .ensures) i;
+      cus = as-held (c .signed-of5 .ensures) i;
       «root_a» = getD (a .t2) 7 0;
       toe = getD (a .t2) 8 0;
       fit = getD (a .t2) 9 0;

@@ -3,7 +3,7 @@
 use borrow.Author.Needs.{needs}
 use lib.ListN.{getD}
 use Rattle.layout.specs.Table.{valuesFrom}
-use Rattle.layout.specs.Machine.{in-struct}
+use Rattle.integers.specs.Machine.{as-held}
 use Rattle.fields.proofs.from_numbers.subframe3_from.Statement.{statement}
 use Rattle.fields.proofs.from_numbers.subframe3_from.Tie as tie
 
@@ -14,15 +14,15 @@ returns c =
     let a = c1 .before .args in
     λ i. record {
       header = a .header;
-      cic = in-struct (c1 .signed-of .ensures) i;
-      node = in-struct (c2 .signed-of2 .ensures) i;
-      cis = in-struct (c3 .signed-of3 .ensures) i;
-      i0 = in-struct (c4 .signed-of4 .ensures) i;
-      crc = in-struct (c5 .signed-of5 .ensures) i;
-      perigee = in-struct (c6 .signed-of6 .ensures) i;
-      «node_rate» = in-struct (c7 .signed-of7 .ensures) i;
+      cic = as-held (c1 .signed-of .ensures) i;
+      node = as-held (c2 .signed-of2 .ensures) i;
+      cis = as-held (c3 .signed-of3 .ensures) i;
+      i0 = as-held (c4 .signed-of4 .ensures) i;
+      crc = as-held (c5 .signed-of5 .ensures) i;
+      perigee = as-held (c6 .signed-of6 .ensures) i;
+      «node_rate» = as-held (c7 .signed-of7 .ensures) i;
       iode = getD (a .t2) 7 0;
-      idot = in-struct (c .signed-of8 .ensures) i;
+      idot = as-held (c .signed-of8 .ensures) i;
     }
 
 pub subframe3-from-spec : {M : Type 1} → statement M

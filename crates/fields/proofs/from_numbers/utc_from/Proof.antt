@@ -3,7 +3,7 @@
 use borrow.Author.Needs.{needs}
 use lib.ListN.{getD}
 use Rattle.layout.specs.Table.{valuesFrom}
-use Rattle.layout.specs.Machine.{in-struct}
+use Rattle.integers.specs.Machine.{as-held}
 use Rattle.fields.proofs.from_numbers.utc_from.Statement.{statement}
 use Rattle.fields.proofs.from_numbers.utc_from.Tie as tie
 
@@ -16,22 +16,22 @@ returns c =
       header = a .header;
       «data_id» = getD (a .t2) 0 0;
       id = getD (a .t2) 1 0;
-      alpha0 = in-struct (c1 .signed-of .ensures) i;
-      alpha1 = in-struct (c2 .signed-of2 .ensures) i;
-      alpha2 = in-struct (c3 .signed-of3 .ensures) i;
-      alpha3 = in-struct (c4 .signed-of4 .ensures) i;
-      beta0 = in-struct (c5 .signed-of5 .ensures) i;
-      beta1 = in-struct (c6 .signed-of6 .ensures) i;
-      beta2 = in-struct (c7 .signed-of7 .ensures) i;
-      beta3 = in-struct (c8 .signed-of8 .ensures) i;
-      a1 = in-struct (c9 .signed-of9 .ensures) i;
-      a0 = in-struct (c10 .signed-of10 .ensures) i;
+      alpha0 = as-held (c1 .signed-of .ensures) i;
+      alpha1 = as-held (c2 .signed-of2 .ensures) i;
+      alpha2 = as-held (c3 .signed-of3 .ensures) i;
+      alpha3 = as-held (c4 .signed-of4 .ensures) i;
+      beta0 = as-held (c5 .signed-of5 .ensures) i;
+      beta1 = as-held (c6 .signed-of6 .ensures) i;
+      beta2 = as-held (c7 .signed-of7 .ensures) i;
+      beta3 = as-held (c8 .signed-of8 .ensures) i;
+      a1 = as-held (c9 .signed-of9 .ensures) i;
+      a0 = as-held (c10 .signed-of10 .ensures) i;
       tot = getD (a .t2) 12 0;
       wnt = getD (a .t2) 13 0;
-      dtls = in-struct (c11 .signed-of11 .ensures) i;
+      dtls = as-held (c11 .signed-of11 .ensures) i;
       wnlsf = getD (a .t2) 15 0;
       dn = getD (a .t2) 16 0;
-      dtlsf = in-struct (c .signed-of12 .ensures) i;
+      dtlsf = as-held (c .signed-of12 .ensures) i;
       reserved10 = getD (a .t2) 18 0;
     }
 

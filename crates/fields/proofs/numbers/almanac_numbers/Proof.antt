@@ -3,8 +3,10 @@
 use mathlib.Core.List.{[], _∷_}
 use Prim.Native.Nat.{_/_, _%_}
 use borrow.Author.Needs.{needs}
+use mir.Syntax.{w32}
 use Rattle.layout.specs.Table.{numbers}
-use Rattle.layout.specs.Machine.{of-handed}
+use Rattle.layout.specs.Field.{unsigned}
+use Rattle.integers.specs.Machine.{of-handed}
 use Rattle.fields.proofs.numbers.almanac_numbers.Statement.{statement}
 use Rattle.fields.proofs.numbers.almanac_numbers.Tie as tie
 
@@ -20,13 +22,13 @@ returns c =
     let at-m0 = at-perigee .1 in
     let at-af0 = at-m0 .1 in
     let at-af1 = at-af0 .1 in
-    let af0 = of-handed 11 (r .af0) (c1 .unsigned-of .ensures) (at-af0 .0 .1) in
-    let delta-i = of-handed 16 (r .«delta_i») (c2 .unsigned-of2 .ensures) (at-delta-i .0 .1) in
-    let node-rate = of-handed 16 (r .«node_rate») (c3 .unsigned-of3 .ensures) (at-node-rate .0 .1) in
-    let node = of-handed 24 (r .node) (c4 .unsigned-of4 .ensures) (at-node .0 .1) in
-    let perigee = of-handed 24 (r .perigee) (c5 .unsigned-of5 .ensures) (at-perigee .0 .1) in
-    let m0 = of-handed 24 (r .m0) (c6 .unsigned-of6 .ensures) (at-m0 .0 .1) in
-    let af1 = of-handed 11 (r .af1) (c .unsigned-of7 .ensures) (at-af1 .0 .1) in
+    let af0 = of-handed w32 (unsigned 11) (r .af0) (c1 .unsigned-of .ensures) (at-af0 .0 .1) in
+    let delta-i = of-handed w32 (unsigned 16) (r .«delta_i») (c2 .unsigned-of2 .ensures) (at-delta-i .0 .1) in
+    let node-rate = of-handed w32 (unsigned 16) (r .«node_rate») (c3 .unsigned-of3 .ensures) (at-node-rate .0 .1) in
+    let node = of-handed w32 (unsigned 24) (r .node) (c4 .unsigned-of4 .ensures) (at-node .0 .1) in
+    let perigee = of-handed w32 (unsigned 24) (r .perigee) (c5 .unsigned-of5 .ensures) (at-perigee .0 .1) in
+    let m0 = of-handed w32 (unsigned 24) (r .m0) (c6 .unsigned-of6 .ensures) (at-m0 .0 .1) in
+    let af1 = of-handed w32 (unsigned 11) (r .af1) (c .unsigned-of7 .ensures) (at-af1 .0 .1) in
     λ i. r .«data_id» ∷ r .«sv_id» ∷ r .e ∷ r .toa ∷ delta-i i ∷ node-rate i ∷ r .health ∷ r .«root_a» ∷ node i ∷ perigee i ∷ m0 i ∷ (af0 i) / 8 ∷ af1 i ∷ (af0 i) % 8 ∷ 0 ∷ 0 ∷ 0 ∷ 0 ∷ 0 ∷ []
 
 pub almanac-numbers-spec : {M : Type 1} → statement M

@@ -4,18 +4,20 @@ use borrow.Author.Needs.{needs}
 use lib.IntN.{ℤ, negsuc, _-ℤ_}
 use mir.Syntax.{w32}
 use mir.Val.{toZ}
-use Rattle.layout.specs.Machine.{as-is, small, minus-pos}
+use mir.ValLaws.{toZ-pos}
+use Rattle.integers.specs.Machine.{as-is}
+use Rattle.integers.specs.BySign.{minus-pos}
 use Rattle.fields.proofs.signs.below_zero.Statement.{statement}
 use Rattle.fields.proofs.signs.below_zero.Tie as tie
 
 value : (c : tie.Start) → negsuc 0 -ℤ toZ w32 (c .args .m) ≡ negsuc (c .args .m)
-value c = ap (λ (z : ℤ). negsuc 0 -ℤ z) (small (c .args .m) (c .pre)) ∙ minus-pos (c .args .m)
+value c = ap (λ (z : ℤ). negsuc 0 -ℤ z) (toZ-pos w32 (c .args .m) (c .pre)) ∙ minus-pos (c .args .m)
 
 sub-result : tie.Need-sub-result
 sub-result c = rw (value c) (record { sfits = c .pre })
 
 returns : tie.Need-returns
-returns c = rw (value c) (as-is (negsuc (c .args .m)) (c .pre))
+returns c = rw (value c) (as-is w32 (negsuc (c .args .m)) (c .pre))
 
 pub below-zero-spec : {M : Type 1} → statement M
 below-zero-spec = tie.close

@@ -3,14 +3,16 @@ use mathlib.Core.Path.{_≡_, sym, ap, _∙_}
 use native.Mathlib.Omega.{arith}
 use borrow.Author.Needs.{needs}
 use lib.Signed.{mag}
+use mir.Syntax.{w32}
 use Rattle.layout.specs.Field.{unsigned}
 use Rattle.layout.specs.Signs.{unsigned-outside, unsigned-natural, unsigned-negative}
-use Rattle.layout.specs.Machine.{as-is, below-zero, from-zero}
+use Rattle.integers.specs.Machine.{as-is}
+use Rattle.integers.specs.BySign.{below-zero, from-zero}
 use Rattle.fields.proofs.signs.unsigned_of.Statement.{statement}
 use Rattle.fields.proofs.signs.unsigned_of.Tie as tie
 
 size : (c : tie.After-magnitude) → c .magnitude .result ≡ mag (c .before .before .args .v)
-size c = c .magnitude .ensures .0 ∙ ap mag (as-is (c .before .before .args .v) (c .before .before .fits .v .sfits))
+size c = c .magnitude .ensures .0 ∙ ap mag (as-is w32 (c .before .before .args .v) (c .before .before .fits .v .sfits))
 
 returns : tie.Need-returns
 returns c =
@@ -20,14 +22,14 @@ returns c =
 returns-2 : tie.Need-returns-2
 returns-2 c =
     let s = c .before .before .before .before in
-    let (n, is, e, l) = below-zero (s .args .v) (s .fits .v .sfits) (c .if2 .taken) in
+    let (n, is, e, l) = below-zero w32 (s .args .v) (s .fits .v .sfits) (c .if2 .taken) in
     let m : c .before .before .magnitude .result ≡ n = size (c .before .before) ∙ ap mag is in
     omega (arith, m, ap (unsigned (s .args .width)) is, unsigned-negative (s .args .width) n (omega arith))
 
 returns-3 : tie.Need-returns-3
 returns-3 c =
     let s = c .before .before .before .before in
-    let (n, is, e, l) = from-zero (s .args .v) (s .fits .v .sfits) (c .if2 .left) in
+    let (n, is, e, l) = from-zero w32 (s .args .v) (s .fits .v .sfits) (c .if2 .left) in
     let m : c .before .before .magnitude .result ≡ n = size (c .before .before) ∙ ap mag is in
     m ∙ sym (ap (unsigned (s .args .width)) is ∙ unsigned-natural (s .args .width) n (omega arith))
 

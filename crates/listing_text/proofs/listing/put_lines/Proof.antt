@@ -1,5 +1,5 @@
 -- `put_lines` meets its contract. The invariant: where the lines of the rest of the walk are put from here on, all lines are put.
-use mathlib.Core.Path.{_≡_, sym, ap, subst}
+use mathlib.Core.Path.{_≡_, sym, ap, subst, _∙_}
 use mathlib.Core.Bool.{true, false}
 use mathlib.Core.List.{List, []}
 use Prim.Native.Nat.{ℕ, _+_, _-_, _<_, _≤_}
@@ -64,20 +64,20 @@ put-block-line-requires : tie.Need-put-block-line-requires Inv-loop μ-loop
 put-block-line-requires c κs =
     let l = c .before .before .before .before in
     let b = l .before .before .before in
-    let e : acceptedAt (b .args .log .now) (l .loop .p) ≡ true = (cc) in
+    let e : acceptedAt (b .args .log .now) (l .loop .p) ≡ true = sym (c .before .before .accepted-at .ensures) ∙ c .before .if1 .taken in
     room-line (l .loop .inv) (b .pre) (omega arith) e
 
 loop-again : tie.Need-loop-again Inv-loop μ-loop
 loop-again c =
     let put = c .before .before in
     let l = put .before .before .before .before .before in
-    let e : acceptedAt (l .before .before .before .args .log .now) (l .loop .p) ≡ true = (cc) in
+    let e : acceptedAt (l .before .before .before .args .log .now) (l .loop .p) ≡ true = sym (put .before .before .before .accepted-at .ensures) ∙ put .before .before .if1 .taken in
     listed (l .loop .inv) (omega arith) e (put .put-block-line .ensures)
 
 loop-again-2 : tie.Need-loop-again-2 Inv-loop μ-loop
 loop-again-2 c =
     let l = c .before .before .before in
-    let e : acceptedAt (l .before .before .before .args .log .now) (l .loop .p) ≡ false = (cc) in
+    let e : acceptedAt (l .before .before .before .args .log .now) (l .loop .p) ≡ false = sym (c .before .accepted-at .ensures) ∙ c .if1 .left in
     passed (l .loop .inv) (omega arith) e
 
 same-length : tie.Need-same-length Inv-loop μ-loop

@@ -39,10 +39,10 @@ pub +first-from-spec : {M : Type 1} → statement M
     (λ c κs. search needs)
     (λ c.
     let a = c .before .before .before .before .args in
-    sym (here (a .log .now .now) (a .p) (omega arith) (cc)))
+    sym (here (a .log .now .now) (a .p) (omega arith) (sym (c .before .accepted-at .ensures) ∙ c .if2 .taken)))
     (λ c. omega arith)
     (λ c κs. (omega arith, omega arith))
     (λ c.
     let a = c .before .before .before .before .before .args in
     let rest : c .first-from .result ≡ firstPlace (a .log .now .now) (a .p + 1) = c .first-from .ensures in
-    rest ∙ sym (next (a .log .now .now) (a .p) (omega arith) (cc)))
+    rest ∙ sym (next (a .log .now .now) (a .p) (omega arith) (sym (c .before .before .accepted-at .ensures) ∙ c .before .if2 .left)))

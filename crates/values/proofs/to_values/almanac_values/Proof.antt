@@ -2,7 +2,8 @@
 -- be, of the header first).
 use lib.Dec.{lit<}
 use lib.ListN.{set}
-use Rattle.values.specs.Machine.{natural-value, whole-value}
+use Rattle.integers.specs.Machine.{as-held}
+use Rattle.values.specs.Machine.{whole-value}
 use Rattle.values.specs.Values.{padded, valuesOfHeader, valuesOfAlmanac}
 use Rattle.values.proofs.to_values.almanac_values.Statement.{statement}
 use Rattle.values.proofs.to_values.almanac_values.Tie as tie
@@ -14,7 +15,7 @@ returns c =
     let c0 = c1 .before in
     let r = c0 .before .before .args .r in
     let known = c5 .before .struct-told .given in
-    λ i. set (set (set (set (set (set (set (set (set (set (set (set (set (c0 .header-values .ensures i) 6 (natural-value (c1 .natural .ensures) i)) 7 (natural-value (c2 .natural2 .ensures) i)) 8 (natural-value (c3 .natural3 .ensures) i)) 9 (natural-value (c4 .natural4 .ensures) i)) 10 (whole-value (r .«delta_i») (c5 .whole .ensures) (known .1 .1 .1 .1 .1 .0 .1) i)) 11 (whole-value (r .«node_rate») (c6 .whole2 .ensures) (known .1 .1 .1 .1 .1 .1 .0 .1) i)) 12 (natural-value (c7 .natural5 .ensures) i)) 13 (natural-value (c8 .natural6 .ensures) i)) 14 (whole-value (r .node) (c9 .whole3 .ensures) (known .1 .1 .1 .1 .1 .1 .1 .1 .1 .0 .1) i)) 15 (whole-value (r .perigee) (c10 .whole4 .ensures) (known .1 .1 .1 .1 .1 .1 .1 .1 .1 .1 .0 .1) i)) 16 (whole-value (r .m0) (c11 .whole5 .ensures) (known .1 .1 .1 .1 .1 .1 .1 .1 .1 .1 .1 .0 .1) i)) 17 (whole-value (r .af0) (c12 .whole6 .ensures) (known .1 .1 .1 .1 .1 .1 .1 .1 .1 .1 .1 .1 .0 .1) i)) 18 (whole-value (r .af1) (c .whole7 .ensures) (known .1 .1 .1 .1 .1 .1 .1 .1 .1 .1 .1 .1 .1 .0 .1) i)
+    λ i. set (set (set (set (set (set (set (set (set (set (set (set (set (c0 .header-values .ensures i) 6 (as-held (c1 .natural .ensures) i)) 7 (as-held (c2 .natural2 .ensures) i)) 8 (as-held (c3 .natural3 .ensures) i)) 9 (as-held (c4 .natural4 .ensures) i)) 10 (whole-value (r .«delta_i») (c5 .whole .ensures) (known .1 .1 .1 .1 .1 .0 .1) i)) 11 (whole-value (r .«node_rate») (c6 .whole2 .ensures) (known .1 .1 .1 .1 .1 .1 .0 .1) i)) 12 (as-held (c7 .natural5 .ensures) i)) 13 (as-held (c8 .natural6 .ensures) i)) 14 (whole-value (r .node) (c9 .whole3 .ensures) (known .1 .1 .1 .1 .1 .1 .1 .1 .1 .0 .1) i)) 15 (whole-value (r .perigee) (c10 .whole4 .ensures) (known .1 .1 .1 .1 .1 .1 .1 .1 .1 .1 .0 .1) i)) 16 (whole-value (r .m0) (c11 .whole5 .ensures) (known .1 .1 .1 .1 .1 .1 .1 .1 .1 .1 .1 .0 .1) i)) 17 (whole-value (r .af0) (c12 .whole6 .ensures) (known .1 .1 .1 .1 .1 .1 .1 .1 .1 .1 .1 .1 .0 .1) i)) 18 (whole-value (r .af1) (c .whole7 .ensures) (known .1 .1 .1 .1 .1 .1 .1 .1 .1 .1 .1 .1 .1 .0 .1) i)
 
 pub almanac-values-spec : {M : Type 1} → statement M
 almanac-values-spec =

@@ -2,7 +2,7 @@
 use lib.Dec.{lit<}
 use lib.IntN.{pos}
 use mathlib.Core.List.{[], _∷_}
-use Rattle.values.specs.Machine.{natural-value}
+use Rattle.integers.specs.Machine.{as-held}
 use Rattle.values.specs.Values.{padded, valuesOfHeader}
 use Rattle.values.proofs.to_values.header_values.Statement.{statement}
 use Rattle.values.proofs.to_values.header_values.Tie as tie
@@ -11,7 +11,7 @@ returns : tie.Need-returns
 unfolding padded valuesOfHeader
 returns c =
     let c5 = c .before in let c4 = c5 .before in let c3 = c4 .before in let c2 = c3 .before in let c1 = c2 .before in
-    λ i. natural-value (c1 .natural .ensures) i ∷ natural-value (c2 .natural2 .ensures) i ∷ natural-value (c3 .natural3 .ensures) i ∷ natural-value (c4 .natural4 .ensures) i ∷ natural-value (c5 .natural5 .ensures) i ∷ natural-value (c .natural6 .ensures) i ∷ pos 0 ∷ pos 0 ∷ pos 0 ∷ pos 0 ∷ pos 0 ∷ pos 0 ∷ pos 0 ∷ pos 0 ∷ pos 0 ∷ pos 0 ∷ pos 0 ∷ pos 0 ∷ pos 0 ∷ pos 0 ∷ pos 0 ∷ pos 0 ∷ pos 0 ∷ pos 0 ∷ pos 0 ∷ []
+    λ i. as-held (c1 .natural .ensures) i ∷ as-held (c2 .natural2 .ensures) i ∷ as-held (c3 .natural3 .ensures) i ∷ as-held (c4 .natural4 .ensures) i ∷ as-held (c5 .natural5 .ensures) i ∷ as-held (c .natural6 .ensures) i ∷ pos 0 ∷ pos 0 ∷ pos 0 ∷ pos 0 ∷ pos 0 ∷ pos 0 ∷ pos 0 ∷ pos 0 ∷ pos 0 ∷ pos 0 ∷ pos 0 ∷ pos 0 ∷ pos 0 ∷ pos 0 ∷ pos 0 ∷ pos 0 ∷ pos 0 ∷ pos 0 ∷ pos 0 ∷ []
 
 pub header-values-spec : {M : Type 1} → statement M
 header-values-spec =

@@ -2,7 +2,8 @@
 -- be, of the header first).
 use lib.Dec.{lit<}
 use lib.ListN.{set}
-use Rattle.values.specs.Machine.{natural-value, whole-value}
+use Rattle.integers.specs.Machine.{as-held}
+use Rattle.values.specs.Machine.{whole-value}
 use Rattle.values.specs.Values.{padded, valuesOfHeader, valuesOfSubframe1}
 use Rattle.values.proofs.to_values.subframe1_values.Statement.{statement}
 use Rattle.values.proofs.to_values.subframe1_values.Tie as tie
@@ -14,7 +15,7 @@ returns c =
     let c0 = c1 .before in
     let r = c0 .before .before .args .r in
     let known = c11 .before .struct-told .given in
-    λ i. set (set (set (set (set (set (set (set (set (set (set (set (set (set (set (set (c0 .header-values .ensures i) 6 (natural-value (c1 .natural .ensures) i)) 7 (natural-value (c2 .natural2 .ensures) i)) 8 (natural-value (c3 .natural3 .ensures) i)) 9 (natural-value (c4 .natural4 .ensures) i)) 10 (natural-value (c5 .natural5 .ensures) i)) 11 (natural-value (c6 .natural6 .ensures) i)) 12 (natural-value (c7 .natural7 .ensures) i)) 13 (natural-value (c8 .natural8 .ensures) i)) 14 (natural-value (c9 .natural9 .ensures) i)) 15 (natural-value (c10 .natural10 .ensures) i)) 16 (whole-value (r .tgd) (c11 .whole .ensures) (known .1 .1 .1 .1 .1 .1 .1 .1 .1 .1 .1 .0 .1) i)) 17 (natural-value (c12 .natural11 .ensures) i)) 18 (natural-value (c13 .natural12 .ensures) i)) 19 (whole-value (r .af2) (c14 .whole2 .ensures) (known .1 .1 .1 .1 .1 .1 .1 .1 .1 .1 .1 .1 .1 .1 .0 .1) i)) 20 (whole-value (r .af1) (c15 .whole3 .ensures) (known .1 .1 .1 .1 .1 .1 .1 .1 .1 .1 .1 .1 .1 .1 .1 .0 .1) i)) 21 (whole-value (r .af0) (c .whole4 .ensures) (known .1 .1 .1 .1 .1 .1 .1 .1 .1 .1 .1 .1 .1 .1 .1 .1 .0 .1) i)
+    λ i. set (set (set (set (set (set (set (set (set (set (set (set (set (set (set (set (c0 .header-values .ensures i) 6 (as-held (c1 .natural .ensures) i)) 7 (as-held (c2 .natural2 .ensures) i)) 8 (as-held (c3 .natural3 .ensures) i)) 9 (as-held (c4 .natural4 .ensures) i)) 10 (as-held (c5 .natural5 .ensures) i)) 11 (as-held (c6 .natural6 .ensures) i)) 12 (as-held (c7 .natural7 .ensures) i)) 13 (as-held (c8 .natural8 .ensures) i)) 14 (as-held (c9 .natural9 .ensures) i)) 15 (as-held (c10 .natural10 .ensures) i)) 16 (whole-value (r .tgd) (c11 .whole .ensures) (known .1 .1 .1 .1 .1 .1 .1 .1 .1 .1 .1 .0 .1) i)) 17 (as-held (c12 .natural11 .ensures) i)) 18 (as-held (c13 .natural12 .ensures) i)) 19 (whole-value (r .af2) (c14 .whole2 .ensures) (known .1 .1 .1 .1 .1 .1 .1 .1 .1 .1 .1 .1 .1 .1 .0 .1) i)) 20 (whole-value (r .af1) (c15 .whole3 .ensures) (known .1 .1 .1 .1 .1 .1 .1 .1 .1 .1 .1 .1 .1 .1 .1 .0 .1) i)) 21 (whole-value (r .af0) (c .whole4 .ensures) (known .1 .1 .1 .1 .1 .1 .1 .1 .1 .1 .1 .1 .1 .1 .1 .1 .0 .1) i)
 
 pub subframe1-values-spec : {M : Type 1} → statement M
 subframe1-values-spec =

@@ -2,7 +2,8 @@
 -- be, of the header first).
 use lib.Dec.{lit<}
 use lib.ListN.{set}
-use Rattle.values.specs.Machine.{natural-value, whole-value}
+use Rattle.integers.specs.Machine.{as-held}
+use Rattle.values.specs.Machine.{whole-value}
 use Rattle.values.specs.Values.{padded, valuesOfHeader, valuesOfSubframe2}
 use Rattle.values.proofs.to_values.subframe2_values.Statement.{statement}
 use Rattle.values.proofs.to_values.subframe2_values.Tie as tie
@@ -14,7 +15,7 @@ returns c =
     let c0 = c1 .before in
     let r = c0 .before .before .args .r in
     let known = c2 .before .struct-told .given in
-    λ i. set (set (set (set (set (set (set (set (set (set (set (c0 .header-values .ensures i) 6 (natural-value (c1 .natural .ensures) i)) 7 (whole-value (r .crs) (c2 .whole .ensures) (known .1 .1 .0 .1) i)) 8 (whole-value (r .«delta_n») (c3 .whole2 .ensures) (known .1 .1 .1 .0 .1) i)) 9 (whole-value (r .m0) (c4 .whole3 .ensures) (known .1 .1 .1 .1 .0 .1) i)) 10 (whole-value (r .cuc) (c5 .whole4 .ensures) (known .1 .1 .1 .1 .1 .0 .1) i)) 11 (natural-value (c6 .natural2 .ensures) i)) 12 (whole-value (r .cus) (c7 .whole5 .ensures) (known .1 .1 .1 .1 .1 .1 .1 .0 .1) i)) 13 (natural-value (c8 .natural3 .ensures) i)) 14 (natural-value (c9 .natural4 .ensures) i)) 15 (natural-value (c10 .natural5 .ensures) i)) 16 (natural-value (c .natural6 .ensures) i)
+    λ i. set (set (set (set (set (set (set (set (set (set (set (c0 .header-values .ensures i) 6 (as-held (c1 .natural .ensures) i)) 7 (whole-value (r .crs) (c2 .whole .ensures) (known .1 .1 .0 .1) i)) 8 (whole-value (r .«delta_n») (c3 .whole2 .ensures) (known .1 .1 .1 .0 .1) i)) 9 (whole-value (r .m0) (c4 .whole3 .ensures) (known .1 .1 .1 .1 .0 .1) i)) 10 (whole-value (r .cuc) (c5 .whole4 .ensures) (known .1 .1 .1 .1 .1 .0 .1) i)) 11 (as-held (c6 .natural2 .ensures) i)) 12 (whole-value (r .cus) (c7 .whole5 .ensures) (known .1 .1 .1 .1 .1 .1 .1 .0 .1) i)) 13 (as-held (c8 .natural3 .ensures) i)) 14 (as-held (c9 .natural4 .ensures) i)) 15 (as-held (c10 .natural5 .ensures) i)) 16 (as-held (c .natural6 .ensures) i)
 
 pub subframe2-values-spec : {M : Type 1} → statement M
 subframe2-values-spec =

@@ -2,7 +2,8 @@
 -- be, of the header first).
 use lib.Dec.{lit<}
 use lib.ListN.{set}
-use Rattle.values.specs.Machine.{natural-value, whole-value}
+use Rattle.integers.specs.Machine.{as-held}
+use Rattle.values.specs.Machine.{whole-value}
 use Rattle.values.specs.Values.{padded, valuesOfHeader, valuesOfSubframe3}
 use Rattle.values.proofs.to_values.subframe3_values.Statement.{statement}
 use Rattle.values.proofs.to_values.subframe3_values.Tie as tie
@@ -14,7 +15,7 @@ returns c =
     let c0 = c1 .before .before in
     let r = c0 .before .before .args .r in
     let known = c1 .before .struct-told .given in
-    λ i. set (set (set (set (set (set (set (set (set (c0 .header-values .ensures i) 6 (whole-value (r .cic) (c1 .whole .ensures) (known .1 .0 .1) i)) 7 (whole-value (r .node) (c2 .whole2 .ensures) (known .1 .1 .0 .1) i)) 8 (whole-value (r .cis) (c3 .whole3 .ensures) (known .1 .1 .1 .0 .1) i)) 9 (whole-value (r .i0) (c4 .whole4 .ensures) (known .1 .1 .1 .1 .0 .1) i)) 10 (whole-value (r .crc) (c5 .whole5 .ensures) (known .1 .1 .1 .1 .1 .0 .1) i)) 11 (whole-value (r .perigee) (c6 .whole6 .ensures) (known .1 .1 .1 .1 .1 .1 .0 .1) i)) 12 (whole-value (r .«node_rate») (c7 .whole7 .ensures) (known .1 .1 .1 .1 .1 .1 .1 .0 .1) i)) 13 (natural-value (c8 .natural .ensures) i)) 14 (whole-value (r .idot) (c .whole8 .ensures) (known .1 .1 .1 .1 .1 .1 .1 .1 .1 .0 .1) i)
+    λ i. set (set (set (set (set (set (set (set (set (c0 .header-values .ensures i) 6 (whole-value (r .cic) (c1 .whole .ensures) (known .1 .0 .1) i)) 7 (whole-value (r .node) (c2 .whole2 .ensures) (known .1 .1 .0 .1) i)) 8 (whole-value (r .cis) (c3 .whole3 .ensures) (known .1 .1 .1 .0 .1) i)) 9 (whole-value (r .i0) (c4 .whole4 .ensures) (known .1 .1 .1 .1 .0 .1) i)) 10 (whole-value (r .crc) (c5 .whole5 .ensures) (known .1 .1 .1 .1 .1 .0 .1) i)) 11 (whole-value (r .perigee) (c6 .whole6 .ensures) (known .1 .1 .1 .1 .1 .1 .0 .1) i)) 12 (whole-value (r .«node_rate») (c7 .whole7 .ensures) (known .1 .1 .1 .1 .1 .1 .1 .0 .1) i)) 13 (as-held (c8 .natural .ensures) i)) 14 (whole-value (r .idot) (c .whole8 .ensures) (known .1 .1 .1 .1 .1 .1 .1 .1 .1 .0 .1) i)
 
 pub subframe3-values-spec : {M : Type 1} → statement M
 subframe3-values-spec =

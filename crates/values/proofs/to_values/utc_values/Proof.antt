@@ -2,7 +2,8 @@
 -- be, of the header first).
 use lib.Dec.{lit<}
 use lib.ListN.{set}
-use Rattle.values.specs.Machine.{natural-value, whole-value}
+use Rattle.integers.specs.Machine.{as-held}
+use Rattle.values.specs.Machine.{whole-value}
 use Rattle.values.specs.Values.{padded, valuesOfHeader, valuesOfUtc}
 use Rattle.values.proofs.to_values.utc_values.Statement.{statement}
 use Rattle.values.proofs.to_values.utc_values.Tie as tie
@@ -14,7 +15,7 @@ returns c =
     let c0 = c1 .before in
     let r = c0 .before .before .args .r in
     let known = c3 .before .struct-told .given in
-    λ i. set (set (set (set (set (set (set (set (set (set (set (set (set (set (set (set (set (set (set (c0 .header-values .ensures i) 6 (natural-value (c1 .natural .ensures) i)) 7 (natural-value (c2 .natural2 .ensures) i)) 8 (whole-value (r .alpha0) (c3 .whole .ensures) (known .1 .1 .1 .0 .1) i)) 9 (whole-value (r .alpha1) (c4 .whole2 .ensures) (known .1 .1 .1 .1 .0 .1) i)) 10 (whole-value (r .alpha2) (c5 .whole3 .ensures) (known .1 .1 .1 .1 .1 .0 .1) i)) 11 (whole-value (r .alpha3) (c6 .whole4 .ensures) (known .1 .1 .1 .1 .1 .1 .0 .1) i)) 12 (whole-value (r .beta0) (c7 .whole5 .ensures) (known .1 .1 .1 .1 .1 .1 .1 .0 .1) i)) 13 (whole-value (r .beta1) (c8 .whole6 .ensures) (known .1 .1 .1 .1 .1 .1 .1 .1 .0 .1) i)) 14 (whole-value (r .beta2) (c9 .whole7 .ensures) (known .1 .1 .1 .1 .1 .1 .1 .1 .1 .0 .1) i)) 15 (whole-value (r .beta3) (c10 .whole8 .ensures) (known .1 .1 .1 .1 .1 .1 .1 .1 .1 .1 .0 .1) i)) 16 (whole-value (r .a1) (c11 .whole9 .ensures) (known .1 .1 .1 .1 .1 .1 .1 .1 .1 .1 .1 .0 .1) i)) 17 (whole-value (r .a0) (c12 .whole10 .ensures) (known .1 .1 .1 .1 .1 .1 .1 .1 .1 .1 .1 .1 .0 .1) i)) 18 (natural-value (c13 .natural3 .ensures) i)) 19 (natural-value (c14 .natural4 .ensures) i)) 20 (whole-value (r .dtls) (c15 .whole11 .ensures) (known .1 .1 .1 .1 .1 .1 .1 .1 .1 .1 .1 .1 .1 .1 .1 .0 .1) i)) 21 (natural-value (c16 .natural5 .ensures) i)) 22 (natural-value (c17 .natural6 .ensures) i)) 23 (whole-value (r .dtlsf) (c18 .whole12 .ensures) (known .1 .1 .1 .1 .1 .1 .1 .1 .1 .1 .1 .1 .1 .1 .1 .1 .1 .1 .0 .1) i)) 24 (natural-value (c .natural7 .ensures) i)
+    λ i. set (set (set (set (set (set (set (set (set (set (set (set (set (set (set (set (set (set (set (c0 .header-values .ensures i) 6 (as-held (c1 .natural .ensures) i)) 7 (as-held (c2 .natural2 .ensures) i)) 8 (whole-value (r .alpha0) (c3 .whole .ensures) (known .1 .1 .1 .0 .1) i)) 9 (whole-value (r .alpha1) (c4 .whole2 .ensures) (known .1 .1 .1 .1 .0 .1) i)) 10 (whole-value (r .alpha2) (c5 .whole3 .ensures) (known .1 .1 .1 .1 .1 .0 .1) i)) 11 (whole-value (r .alpha3) (c6 .whole4 .ensures) (known .1 .1 .1 .1 .1 .1 .0 .1) i)) 12 (whole-value (r .beta0) (c7 .whole5 .ensures) (known .1 .1 .1 .1 .1 .1 .1 .0 .1) i)) 13 (whole-value (r .beta1) (c8 .whole6 .ensures) (known .1 .1 .1 .1 .1 .1 .1 .1 .0 .1) i)) 14 (whole-value (r .beta2) (c9 .whole7 .ensures) (known .1 .1 .1 .1 .1 .1 .1 .1 .1 .0 .1) i)) 15 (whole-value (r .beta3) (c10 .whole8 .ensures) (known .1 .1 .1 .1 .1 .1 .1 .1 .1 .1 .0 .1) i)) 16 (whole-value (r .a1) (c11 .whole9 .ensures) (known .1 .1 .1 .1 .1 .1 .1 .1 .1 .1 .1 .0 .1) i)) 17 (whole-value (r .a0) (c12 .whole10 .ensures) (known .1 .1 .1 .1 .1 .1 .1 .1 .1 .1 .1 .1 .0 .1) i)) 18 (as-held (c13 .natural3 .ensures) i)) 19 (as-held (c14 .natural4 .ensures) i)) 20 (whole-value (r .dtls) (c15 .whole11 .ensures) (known .1 .1 .1 .1 .1 .1 .1 .1 .1 .1 .1 .1 .1 .1 .1 .0 .1) i)) 21 (as-held (c16 .natural5 .ensures) i)) 22 (as-held (c17 .natural6 .ensures) i)) 23 (whole-value (r .dtlsf) (c18 .whole12 .ensures) (known .1 .1 .1 .1 .1 .1 .1 .1 .1 .1 .1 .1 .1 .1 .1 .1 .1 .1 .0 .1) i)) 24 (as-held (c .natural7 .ensures) i)
 
 pub utc-values-spec : {M : Type 1} → statement M
 utc-values-spec =
