@@ -1,4 +1,4 @@
-// Links the static library `libexports.a`, from the folder that LNAV_LIBRARY_DIR names, or else from the repository's target folder.
+// Links the static library `liblnav.a`, from the folder that LNAV_LIBRARY_DIR names, or else from the repository's target folder.
 use std::env;
 use std::path::PathBuf;
 
@@ -9,15 +9,15 @@ fn main() {
         Some(folder) => PathBuf::from(folder),
         None => own.join("../../target/staticlib"),
     };
-    let library = folder.join("libexports.a");
+    let library = folder.join("liblnav.a");
     println!("cargo:rerun-if-env-changed=LNAV_LIBRARY_DIR");
     println!("cargo:rerun-if-changed={}", library.display());
     if !library.is_file() {
         panic!(
-            "no {}: make it by `rt staticlib exports`",
+            "no {}: make it by `bindings/library`",
             library.display()
         );
     }
     println!("cargo:rustc-link-search=native={}", folder.display());
-    println!("cargo:rustc-link-lib=static=exports");
+    println!("cargo:rustc-link-lib=static=lnav");
 }

@@ -1,5 +1,6 @@
 -- Definitions. The answer of a call that may refuse (document 01, 'Numbers by the place of the check').
 use mathlib.Core.Bool.{Bool, true, false}
+use mathlib.Core.Option.{Option, none, some}
 use Prim.Native.Nat.{ℕ}
 use Rattle.answer.specs.declared.Refusal.{Refusal}
 use Rattle.answer.specs.declared.Checked.{Checked}
@@ -38,7 +39,30 @@ unfoldable pub outcome : {A : Type 0} → Answer A → Answer (Unit {0})
 outcome (accepted a) = accepted tt
 outcome (refused n d) = refused n d
 
--- what the code's refusal says
+-- a line of the table for what is not held; where it is held, the lines below decide
+unfoldable pub whenHeld : {A B : Type 0} → Option A → ℕ → ℕ → (A → Answer B) → Answer B
+whenHeld none n d below = refused n d
+whenHeld (some a) n d below = below a
+
+-- a question about the value of an answer; a refusal stays
+unfoldable pub andThen : {A B : Type 0} → Answer A → (A → Answer B) → Answer B
+andThen (accepted a) question = question a
+andThen (refused n d) question = refused n d
+
+-- the value, none where the call is refused
+unfoldable pub value : {A : Type 0} → Answer A → Option A
+value (accepted a) = some a
+value (refused n d) = none
+
+-- what f gives for the value, or `otherwise` where the call is refused
+unfoldable pub fromValue : {A B : Type 0} → B → (A → B) → Answer A → B
+fromValue otherwise f (accepted a) = f a
+fromValue otherwise f (refused n d) = otherwise
+
+-- the code's refusal by number n with detail d, and what it says
+abbrev pub refusalBy : ℕ → ℕ → Refusal
+refusalBy n d = record { number = n; detail = d }
+
 abbrev pub refusalAnswer : {A : Type 0} → Refusal → Answer A
 refusalAnswer r = refused (r .number) (r .detail)
 

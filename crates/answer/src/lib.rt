@@ -14,9 +14,9 @@ pub enum Checked {
     Refused(Refusal),
 }
 
-// The answer with this number and detail.
-pub fn refused(number: u8, detail: usize) -> Checked
-    ensures { λ r. ⌜ Answer.checkedAnswer r ≡ Answer.refused number detail ⌝ }
+// The refusal by this number, with this detail.
+pub fn refusal_by(number: u8, detail: usize) -> Refusal
+    ensures { λ r. ⌜ r ≡ Answer.refusalBy number detail ⌝ }
 {
-    Checked::Refused(Refusal { number, detail })
+    Refusal { number, detail }
 }

@@ -1,17 +1,4 @@
--- The files of this folder: the definitions, then the laws.
+-- The files of this folder: definitions; laws about them.
 pub mod Block
-pub mod Check
 pub mod Polarity
-pub mod Compare
-pub mod Quick
-pub mod Answers
-pub mod Polarities
-pub mod Ways
-pub mod Windows
-pub mod Acceptance
-pub mod Flips
-pub mod Source
-pub mod Inverse
-pub mod Uniqueness
-pub mod Copies
-pub mod Start
+pub mod laws

@@ -1,13 +1,14 @@
-// The block check (document 01, 'Numbers by the place of the check'), the same question answered fast, and what a block says
-// of itself: its subframe number, count and polarity.
-mod check;
+// The block: its size, and what it says of itself, its subframe number, count and polarity.
+mod bounds;
 mod handover;
 mod polarity;
-mod quick;
 
-pub use check::check_block;
+pub use bounds::BLOCK_BYTES;
+pub use bounds::BLOCK_STEP;
+pub use bounds::LARGEST_COUNT;
+pub use bounds::LOG_LIMIT;
+pub use bounds::has_room;
 pub use handover::count_at;
 pub use handover::subframe_number_at;
 pub use polarity::Polarity;
 pub use polarity::polarity_at;
-pub use quick::accepted_at;

@@ -85,8 +85,8 @@ fn print_checked(checked: Checked) {
 
 // Prints the answer line for the block at p.
 fn print_answer(log: &[u8], p: usize) {
-    print_checked(block::check_block(log, p));
-    if block::accepted_at(log, p) {
+    print_checked(block_check::check_block(log, p));
+    if quick::accepted_at(log, p) {
         io::write_all(STDOUT_FILENO, b"yes\n");
     } else {
         io::write_all(STDOUT_FILENO, b"no\n");

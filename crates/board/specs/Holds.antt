@@ -5,7 +5,7 @@ use Prim.Native.Nat.{ℕ, _+_, _-_, _*_, _/_, _%_, _^_}
 use lib.Dec.{eqb, leb, ltb}
 use lib.IntN.{ℤ, pos}
 use Rattle.bits.specs.Bits.{pack, unpack}
-use Rattle.bits.specs.Tabulate.{tabulate}
+use Rattle.finite.specs.Tabulate.{tabulate}
 use Rattle.answer.specs.Answer.{Answer, accepted, refused, number, detail, isAccepted}
 use Rattle.integers.specs.Whole.{eqZ}
 use Rattle.parity.specs.Encode.{sourceOf, encode, encodeEnding}
@@ -13,8 +13,8 @@ use Rattle.parity.specs.Word.{Window, sourceBits, passes}
 use Rattle.record.specs.Source.{recordOf}
 use Rattle.record.specs.declared.record.Record.{Record}
 use Rattle.record.specs.declared.record.Record.the-variants as R
+use Rattle.utc.specs.Time as Time
 use Rattle.utc.specs.Leap.{leapWeek}
-use Rattle.utc.specs.Time.{timeQuestion}
 use Rattle.utc.specs.declared.day.TimeOfDay.{TimeOfDay}
 use Rattle.board.specs.Board.{Row, word, fillers, tgd, leap, time, pageWith}
 
@@ -36,9 +36,9 @@ hasTgd value (R.Other r) = false
 
 -- the time is asked for with DN 7 and both offsets 18 at second 0, so that number 16 has its place
 unfoldable pub hasLeapWeek : ℕ → ℕ → Answer ℤ → Bool
-hasLeapWeek week wnlsf (accepted z) = isAccepted (timeQuestion (pageWith wnlsf 7 (pos 18) (pos 18)) week 0) && eqZ (leapWeek wnlsf week) z
+hasLeapWeek week wnlsf (accepted z) = isAccepted (Time.timeOfDay (pageWith wnlsf 7 (pos 18) (pos 18)) week 0) && eqZ (leapWeek wnlsf week) z
 hasLeapWeek week wnlsf (refused n d) =
-    let answer = timeQuestion (pageWith wnlsf 7 (pos 18) (pos 18)) week 0 in
+    let answer = Time.timeOfDay (pageWith wnlsf 7 (pos 18) (pos 18)) week 0 in
     eqb (number answer) n && eqb (detail answer) d
 
 unfoldable pub givesTime : TimeOfDay → Answer TimeOfDay → Bool
@@ -54,4 +54,4 @@ holds (fillers pair source start received) =
     passes w && eqb (pack 32 (encodeEnding (w 0) (w 1) (sourceOf (source * 4)) (start / 2) (start % 2))) (pack 32 w)
 holds (tgd bits value) = hasTgd value (recordOf (sourceWith bits))
 holds (leap week wnlsf answer) = hasLeapWeek week wnlsf answer
-holds (time page week second answer) = givesTime answer (timeQuestion page week second)
+holds (time page week second answer) = givesTime answer (Time.timeOfDay page week second)

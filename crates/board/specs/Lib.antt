@@ -1,4 +1,4 @@
--- The files of this folder: the definitions, then the laws.
+-- The files of this folder: definitions; laws about them.
 pub mod Board
 pub mod Holds
-pub mod BoardHolds
+pub mod laws

@@ -37,5 +37,5 @@ unfoldable pub accuracyFor : ℕ → Option Float
 accuracyFor ura = cond (ltb ura 15) (some (nearestTenths (getD tenths ura 0))) none
 
 -- number 11, then the accuracy
-unfoldable pub accuracyQuestion : Subframe1 → Answer (Option Float)
-accuracyQuestion r = refuseIf (not (writable (R.Subframe1 r))) 11 0 (accepted (accuracyFor (r .ura)))
+unfoldable pub accuracy : Subframe1 → Answer (Option Float)
+accuracy r = refuseIf (not (writable (R.Subframe1 r))) 11 0 (accepted (accuracyFor (r .ura)))

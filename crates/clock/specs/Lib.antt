@@ -1,6 +1,4 @@
--- The files of this folder: the definitions, then the laws.
+-- The files of this folder: definitions; laws about them.
 pub mod Terms
 pub mod Accuracy
-pub mod Answers
-pub mod TermsExact
-pub mod Accuracies
+pub mod laws

@@ -15,8 +15,8 @@ givenTermsAnswer (Given t) = accepted t
 givenTermsAnswer (Refused r) = refusalAnswer r
 
 -- TGD 2^-31, af0 2^-31, af1 2^-43, af2 2^-55
-unfoldable pub clockTerms : Subframe1 → ClockTerms
-clockTerms r = record {
+unfoldable pub termsOf : Subframe1 → ClockTerms
+termsOf r = record {
   tgd = scaled (r .tgd) 31;
   af0 = scaled (r .af0) 31;
   af1 = scaled (r .af1) 43;
@@ -24,5 +24,5 @@ clockTerms r = record {
 }
 
 -- number 11, then the terms
-unfoldable pub termsQuestion : Subframe1 → Answer ClockTerms
-termsQuestion r = refuseIf (not (writable (R.Subframe1 r))) 11 0 (accepted (clockTerms r))
+unfoldable pub clockTerms : Subframe1 → Answer ClockTerms
+clockTerms r = refuseIf (not (writable (R.Subframe1 r))) 11 0 (accepted (termsOf r))

@@ -1,9 +1,11 @@
 // The clock terms of a subframe 1: four doubles, each exact.
 use answer::Refusal;
+use answer::refusal_by;
 use record::Record;
 use record::Subframe1;
 ghost use mathlib.Core.Path.{_≡_};
-ghost use Rattle.clock.specs.Terms.{givenTermsAnswer, clockTerms, termsQuestion};
+ghost use Rattle.clock.specs.Terms as Terms;
+ghost use Rattle.clock.specs.Terms.{givenTermsAnswer};
 
 // TGD and the terms of the clock's polynomial.
 pub struct ClockTerms {
@@ -27,7 +29,7 @@ const SCALE_43: f64 = 1.136868377216160297393798828125e-13;
 const SCALE_55: f64 = 2.77555756156289135105907917022705078125e-17;
 
 fn terms_of(r: Subframe1) -> ClockTerms
-    ensures { λ t. ⌜ t ≡ clockTerms r ⌝ }
+    ensures { λ t. ⌜ t ≡ Terms.termsOf r ⌝ }
 {
     ClockTerms {
         tgd: (r.tgd as f64) * SCALE_31,
@@ -39,13 +41,10 @@ fn terms_of(r: Subframe1) -> ClockTerms
 
 // The clock terms of a record that the writer takes.
 pub fn clock_terms(r: Subframe1) -> GivenTerms
-    ensures { λ g. ⌜ givenTermsAnswer g ≡ termsQuestion r ⌝ }
+    ensures { λ g. ⌜ givenTermsAnswer g ≡ Terms.clockTerms r ⌝ }
 {
-    if !fields::writable(Record::Subframe1(r)) {
-        return GivenTerms::Refused(Refusal {
-            number: 11,
-            detail: 0,
-        });
+    if !writable::writable(Record::Subframe1(r)) {
+        return GivenTerms::Refused(refusal_by(11, 0));
     }
     GivenTerms::Given(terms_of(r))
 }

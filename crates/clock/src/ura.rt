@@ -1,10 +1,12 @@
 // The accuracy that a subframe 1 states by its URA index.
 use answer::Refusal;
+use answer::refusal_by;
 use record::Record;
 use record::Subframe1;
 ghost use mathlib.Core.Path.{_≡_};
 ghost use mathlib.Core.List.{map};
-ghost use Rattle.clock.specs.Accuracy.{predicted, tenths, nearestTenths, accuracyFor, givenAccuracyAnswer, accuracyQuestion};
+ghost use Rattle.clock.specs.Accuracy as Accuracy;
+ghost use Rattle.clock.specs.Accuracy.{predicted, tenths, nearestTenths, accuracyFor, givenAccuracyAnswer};
 
 // A length in metres, or that no prediction exists.
 pub enum UserRangeAccuracy {
@@ -56,13 +58,10 @@ fn accuracy_for(ura: u32) -> UserRangeAccuracy
 
 // The accuracy of a record that the writer takes.
 pub fn accuracy(r: Subframe1) -> GivenAccuracy
-    ensures { λ g. ⌜ givenAccuracyAnswer g ≡ accuracyQuestion r ⌝ }
+    ensures { λ g. ⌜ givenAccuracyAnswer g ≡ Accuracy.accuracy r ⌝ }
 {
-    if !fields::writable(Record::Subframe1(r)) {
-        return GivenAccuracy::Refused(Refusal {
-            number: 11,
-            detail: 0,
-        });
+    if !writable::writable(Record::Subframe1(r)) {
+        return GivenAccuracy::Refused(refusal_by(11, 0));
     }
     GivenAccuracy::Given(accuracy_for(r.ura))
 }

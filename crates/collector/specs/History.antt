@@ -5,18 +5,19 @@ use mathlib.Core.List.{List, [], _∷_, _++_}
 use mathlib.Core.Option.{Option, none, some, bind, orElse}
 use Prim.Native.Nat.{ℕ}
 use lib.Dec.{eqb}
-use Rattle.answer.specs.Answer.{Answer, accepted, refused}
+use Rattle.answer.specs.Answer.{value}
+use Rattle.record.specs.AsKind.{asSubframe1, asSubframe2, asSubframe3, asAlmanac, asUtc}
 use Rattle.record.specs.declared.record.Subframe1.{Subframe1}
 use Rattle.record.specs.declared.record.Subframe2.{Subframe2}
 use Rattle.record.specs.declared.record.Subframe3.{Subframe3}
 use Rattle.record.specs.declared.record.AlmanacPage.{AlmanacPage}
 use Rattle.record.specs.declared.record.UtcPage.{UtcPage}
 use Rattle.record.specs.declared.record.Record.{Record}
+use Rattle.orbit_set.specs.Set.{AreSet}
+use Rattle.orbit_set.specs.declared.set.OrbitSet.{OrbitSet}
 use Rattle.collector.specs.Held.{emptyCollector}
-use Rattle.collector.specs.Feed.{asSubframe1, asSubframe2, asSubframe3, asAlmanac, asUtc, feeding, fed}
-use Rattle.collector.specs.Questions.{firstHealthBit}
+use Rattle.collector.specs.Feed.{feed, fed}
 use Rattle.collector.specs.declared.held.Collector.{Collector}
-use Rattle.collector.specs.declared.set.OrbitSet.{OrbitSet}
 
 -- one call of feed
 pub record Feed : Type 0 where
@@ -35,13 +36,8 @@ reached (f ∷ before) = after (reached before) f
 
 -- ---- what one feed brings
 
--- the record of an accepted feed
-unfoldable pub value : {A : Type 0} → Answer A → Option A
-value (accepted a) = some a
-value (refused n d) = none
-
 unfoldable pub brought : Feed → Option Record
-brought f = value (feeding (f .log) (f .place) (f .satellite))
+brought f = value (feed (f .log) (f .place) (f .satellite))
 
 -- the same for a feed of satellite n, none for one of another
 unfoldable pub broughtFor : ℕ → Feed → Option Record
@@ -94,15 +90,6 @@ pub record IsLatest {A : Type 0} (brings : Feed → Option A) (history : List Fe
   pub brought-it : brings feed ≡ some a
   pub none-later : Each (λ g. brings g ≡ none) later
 
--- o is the three records that are held; they share one issue and show the first health bit clear
-pub record AreSet (held1 : Option Subframe1) (held2 : Option Subframe2) (held3 : Option Subframe3) (o : OrbitSet) : Type 0 where
-  pub held-1 : held1 ≡ some (o .subframe1)
-  pub held-2 : held2 ≡ some (o .subframe2)
-  pub held-3 : held3 ≡ some (o .subframe3)
-  pub issue-2 : o .subframe1 .«iodc_low» ≡ o .subframe2 .iode
-  pub issue-3 : o .subframe2 .iode ≡ o .subframe3 .iode
-  pub health-clear : firstHealthBit (o .subframe1) ≡ 0
-
--- the same of the latest subframes 1, 2 and 3 that were fed for satellite n
+-- o is the latest subframes 1, 2 and 3 that were fed for satellite n; they share one issue and show the first health bit clear
 abbrev pub IsSet : ℕ → List Feed → OrbitSet → Type 0
 IsSet n history = AreSet (latest (subframe1For n) history) (latest (subframe2For n) history) (latest (subframe3For n) history)

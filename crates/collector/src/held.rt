@@ -1,29 +1,12 @@
 // What the collector (a term of document 01) holds. Its fields are closed to other crates, so that a collector comes only from the empty one
 // and from feeds.
 use record::AlmanacPage;
-use record::Subframe1;
-use record::Subframe2;
-use record::Subframe3;
 use record::UtcPage;
+use satellite::Satellite;
 ghost use mathlib.Core.Path.{_≡_};
-ghost use Rattle.collector.specs.Held.{emptyCollector, isSatellite};
+ghost use Rattle.collector.specs.Held.{emptyCollector};
 
-// The latest record of a kind, or nothing where none was fed.
-pub enum HeldSubframe1 {
-    Nothing,
-    Latest(Subframe1),
-}
-
-pub enum HeldSubframe2 {
-    Nothing,
-    Latest(Subframe2),
-}
-
-pub enum HeldSubframe3 {
-    Nothing,
-    Latest(Subframe3),
-}
-
+// The latest page of a kind, or nothing where none was fed.
 pub enum HeldAlmanac {
     Nothing,
     Latest(AlmanacPage),
@@ -32,13 +15,6 @@ pub enum HeldAlmanac {
 pub enum HeldUtc {
     Nothing,
     Latest(UtcPage),
-}
-
-// What is held of one satellite.
-pub struct Satellite {
-    pub(crate) subframe1: HeldSubframe1,
-    pub(crate) subframe2: HeldSubframe2,
-    pub(crate) subframe3: HeldSubframe3,
 }
 
 // What is held for one SV ID.
@@ -58,11 +34,7 @@ impl Collector {
     pub fn empty() -> Self
         ensures { λ r. ⌜ r ≡ emptyCollector ⌝ }
     {
-        let satellite = Satellite {
-            subframe1: HeldSubframe1::Nothing,
-            subframe2: HeldSubframe2::Nothing,
-            subframe3: HeldSubframe3::Nothing,
-        };
+        let satellite = Satellite::empty();
         let entry = AlmanacEntry {
             page: HeldAlmanac::Nothing,
         };
@@ -72,14 +44,4 @@ impl Collector {
             utc: HeldUtc::Nothing,
         }
     }
-}
-
-// Whether a number is that of a satellite, or an SV ID.
-pub(crate) fn is_satellite(n: usize) -> bool
-    ensures { λ r. ⌜ r ≡ isSatellite n ⌝ }
-{
-    if n < 1 {
-        return false;
-    }
-    n <= 32
 }

@@ -8,5 +8,3 @@ pub use feed::Fed;
 pub use held::Collector;
 pub use pages::GivenAlmanac;
 pub use pages::GivenUtc;
-pub use set::GivenSet;
-pub use set::OrbitSet;

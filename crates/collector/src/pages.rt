@@ -2,12 +2,14 @@
 use crate::held::Collector;
 use crate::held::HeldAlmanac;
 use crate::held::HeldUtc;
-use crate::held::is_satellite;
 use answer::Refusal;
+use answer::refusal_by;
 use record::AlmanacPage;
 use record::UtcPage;
+use satellite::is_satellite;
 ghost use mathlib.Core.Path.{_≡_};
-ghost use Rattle.collector.specs.Questions.{givenAlmanacAnswer, givenUtcAnswer, almanacQuestion, utcQuestion};
+ghost use Rattle.collector.specs.Questions as Questions;
+ghost use Rattle.collector.specs.Questions.{givenAlmanacAnswer, givenUtcAnswer};
 
 // The answer to the question for an almanac page.
 pub enum GivenAlmanac {
@@ -24,37 +26,28 @@ pub enum GivenUtc {
 impl Collector {
     // The almanac page for an SV ID.
     pub fn almanac(self, id: usize) -> GivenAlmanac
-        ensures { λ r. ⌜ givenAlmanacAnswer r ≡ almanacQuestion self id ⌝ }
+        ensures { λ r. ⌜ givenAlmanacAnswer r ≡ Questions.almanac self id ⌝ }
     {
         if !is_satellite(id) {
-            return GivenAlmanac::Refused(Refusal {
-                number: 13,
-                detail: id,
-            });
+            return GivenAlmanac::Refused(refusal_by(13, id));
         }
         let i = id - 1;
         let entry = self.almanac[i];
         let page = entry.page;
         match page {
             HeldAlmanac::Latest(latest) => GivenAlmanac::Given(latest),
-            HeldAlmanac::Nothing => GivenAlmanac::Refused(Refusal {
-                number: 20,
-                detail: 0,
-            }),
+            HeldAlmanac::Nothing => GivenAlmanac::Refused(refusal_by(20, 0)),
         }
     }
 
     // The UTC page.
     pub fn utc_page(self) -> GivenUtc
-        ensures { λ r. ⌜ givenUtcAnswer r ≡ utcQuestion self ⌝ }
+        ensures { λ r. ⌜ givenUtcAnswer r ≡ Questions.utcPage self ⌝ }
     {
         let utc = self.utc;
         match utc {
             HeldUtc::Latest(latest) => GivenUtc::Given(latest),
-            HeldUtc::Nothing => GivenUtc::Refused(Refusal {
-                number: 20,
-                detail: 0,
-            }),
+            HeldUtc::Nothing => GivenUtc::Refused(refusal_by(20, 0)),
         }
     }
 }

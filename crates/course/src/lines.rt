@@ -6,8 +6,9 @@ use crate::print::print_refusal;
 use crate::print::print_signed;
 use block::Polarity;
 use collector::Collector;
-use collector::GivenSet;
-use collector::OrbitSet;
+use orbit_set::GivenSet;
+use orbit_set::OrbitSet;
+use reader::Reading;
 use record::AlmanacPage;
 use record::Record;
 use record::Subframe1;
@@ -64,12 +65,19 @@ fn print_polarity(polarity: Polarity) {
     }
 }
 
-// Prints the line of the block at place p, which reads as this record.
-pub(crate) fn print_block(log: &[u8], p: usize, record: Record) {
+fn print_line(p: usize, polarity: Polarity, record: Record) {
     print_number(p);
-    print_polarity(block::polarity_at(log, p));
+    print_polarity(polarity);
     print_record(record);
     print(b"\n");
+}
+
+// Prints the line of the block at place p, and nothing if it is refused.
+pub(crate) fn print_block(log: &[u8], p: usize) {
+    match reader::read(log, p) {
+        Reading::Accepted(record) => print_line(p, block::polarity_at(log, p), record),
+        Reading::Refused(_) => {}
+    }
 }
 
 // Prints the issue, and the counts of the three subframes.

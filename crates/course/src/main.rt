@@ -11,7 +11,7 @@ use crate::print::print;
 use crate::print::print_refusal;
 use answer::Checked;
 use collector::Collector;
-use reader::Reading;
+use search::Found;
 ghost use mathlib.Core.Path.{_≡_};
 ghost use lib.ListN.{length};
 
@@ -19,7 +19,7 @@ ghost use lib.ListN.{length};
 const SATELLITE: usize = 5;
 
 fn print_start(log: &[u8]) {
-    match block::check_block(log, 0) {
+    match block_check::check_block(log, 0) {
         Checked::Accepted => {}
         Checked::Refused(r) => {
             print(b"0: ");
@@ -37,21 +37,17 @@ fn feed(c: Collector, log: &[u8], p: usize) -> Collector {
     after
 }
 
-// Walks the log from place 0, by 300 after an accepted block and else by 1, until fewer than 302 bytes are left.
+// Walks the log: finds the next block, prints it, feeds it, and goes on 300 places after its place.
 fn print_walk(log: &[u8]) {
     let mut c = Collector::empty();
     let mut p: usize = 0;
-    while 302 <= log.len() - p {
-        match reader::read(log, p) {
-            Reading::Accepted(record) => {
-                print_block(log, p, record);
-                c = feed(c, log, p);
-                p += 300;
-            }
-            Reading::Refused(_) => {
-                p += 1;
-            }
-        }
+    loop {
+        let Found::At(q) = search::find(log, p) else {
+            return;
+        };
+        print_block(log, q);
+        c = feed(c, log, q);
+        p = q + block::BLOCK_STEP;
     }
 }
 

@@ -1,7 +1,5 @@
--- The files of this folder: the definitions, then the laws.
+-- The files of this folder: definitions; laws about them.
 pub mod Scaled
 pub mod Exact
 pub mod Nearest
-pub mod Values
-pub mod Patterns
-pub mod Products
+pub mod laws

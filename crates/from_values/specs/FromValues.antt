@@ -6,7 +6,7 @@ use lib.Dec.{eqb, leb}
 use lib.IntN.{ℤ, pos, negsuc, natAbs}
 use lib.ListN.{getD}
 use lib.Signed.{leZ}
-use Rattle.bits.specs.Every.{everyBelow}
+use Rattle.finite.specs.Every.{everyBelow}
 use Rattle.integers.specs.Whole.{eqZ}
 use Rattle.answer.specs.Answer.{Answer, accepted, refuseIf, refusalAnswer}
 use Rattle.record.specs.declared.record.Header.{Header}
@@ -195,11 +195,11 @@ givenUtcPageAnswer (GU.Refused r) = refusalAnswer r
 unfoldable pub having : {A : Type 0} → (A → List ℤ) → (List ℤ → A) → List ℤ → Answer A
 having values from v = refuseIf (not (sameValues (values (from v)) v)) 11 0 (accepted (from v))
 
-unfoldable pub recordQuestion : ℕ → List ℤ → Answer Record
-recordQuestion kind v = refuseIf (not (isKindNumber kind)) 11 0 (having valuesOf (recordFrom kind) v)
+unfoldable pub recordWith : ℕ → List ℤ → Answer Record
+recordWith kind v = refuseIf (not (isKindNumber kind)) 11 0 (having valuesOf (recordFrom kind) v)
 
-unfoldable pub subframe1Question : List ℤ → Answer Subframe1
-subframe1Question = having valuesOfSubframe1 subframe1From
+unfoldable pub subframe1With : List ℤ → Answer Subframe1
+subframe1With = having valuesOfSubframe1 subframe1From
 
-unfoldable pub utcPageQuestion : List ℤ → Answer UtcPage
-utcPageQuestion = having valuesOfUtc utcFrom
+unfoldable pub utcPageWith : List ℤ → Answer UtcPage
+utcPageWith = having valuesOfUtc utcFrom

@@ -1,6 +1,3 @@
--- The files of this folder: the definitions, then the laws.
+-- The files of this folder: definitions; laws about them.
 pub mod FromValues
-pub mod Answers
-pub mod Machine
-pub mod Having
-pub mod OwnValues
+pub mod laws

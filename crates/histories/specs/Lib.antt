@@ -1,3 +1,2 @@
--- The files of this folder: the definitions, then the laws.
+-- The files of this folder: definitions.
 pub mod FromSlices
-pub mod Least

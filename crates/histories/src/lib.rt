@@ -1,8 +1,9 @@
 // The collector as a history: blocks of one log are fed one after the other to the empty collector.
 use collector::Collector;
 ghost use mathlib.Core.Path.{_≡_};
+ghost use Rattle.finite.specs.Least.{least};
 ghost use Rattle.collector.specs.History.{reached};
-ghost use Rattle.histories.specs.FromSlices.{least, history};
+ghost use Rattle.histories.specs.FromSlices.{history};
 
 fn least_of(a: usize, b: usize) -> usize
     ensures { λ r. ⌜ r ≡ least a b ⌝ }

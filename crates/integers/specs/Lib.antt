@@ -1,6 +1,3 @@
--- The files of this folder: the definitions, then the laws.
+-- The files of this folder: definitions; laws about them.
 pub mod Whole
-pub mod Sizes
-pub mod Modulo
-pub mod Machine
-pub mod BySign
+pub mod laws

@@ -1,8 +1,6 @@
--- The files of this folder: the definitions, then the laws.
+-- The files of this folder: definitions; internal, definitions that only private contracts cite; laws about them.
 pub mod Field
 pub mod Layout
 pub mod Table
-pub mod Fields
-pub mod Signs
-pub mod Layouts
-pub mod Tables
+pub mod internal
+pub mod laws

@@ -1,13 +1,7 @@
 -- Definitions. A run of fields as the code holds it: a table of n widths and a list of n numbers. Entries past the last field are 0.
-use mathlib.Core.Path.{_≡_}
-use mathlib.Core.Bool.{Bool}
 use mathlib.Core.List.{List, [], _∷_}
-use Prim.Native.Nat.{ℕ, zero, suc, _+_, _^_, _<_}
-use lib.Dec.{ltb}
+use Prim.Native.Nat.{ℕ, zero, suc, _+_}
 use lib.ListN.{getD}
-use Rattle.bits.specs.Bits.{Bits, bitsAt, pack, unpack}
-use Rattle.bits.specs.Every.{everyBelow}
-use Rattle.bits.specs.Tabulate.{tabulate}
 use Rattle.layout.specs.Field.{width, valueOf, numberOf}
 use Rattle.layout.specs.Layout.{Layout, Values}
 
@@ -32,15 +26,3 @@ valuesFrom (f ∷ l) i ns = (valueOf f (getD ns i 0), valuesFrom l (suc i) ns)
 unfoldable pub offset : List ℕ → ℕ → ℕ
 offset ws zero = 0
 offset ws (suc i) = offset ws i + getD ws i 0
-
--- the n numbers that stand in those widths from index `at` of a list of bits on
-unfoldable pub numbersAt : ℕ → List ℕ → ℕ → List ℕ → List ℕ
-numbersAt n ws at bits = tabulate n (λ i. pack (getD ws i 0) (bitsAt bits (at + offset ws i)))
-
--- the first n numbers stand in those widths, one after the other, in the bits u
-abbrev pub StandIn : ℕ → List ℕ → List ℕ → Bits → Type 0
-StandIn n ws ns u = (i : ℕ) → i < n → (j : ℕ) → j < getD ws i 0 → u (offset ws i + j) ≡ unpack (getD ws i 0) (getD ns i 0) j
-
--- each of the n numbers is within its width
-unfoldable pub allFit : ℕ → List ℕ → List ℕ → Bool
-allFit n ws ns = everyBelow n (λ i. ltb (getD ns i 0) (2 ^ getD ws i 0))

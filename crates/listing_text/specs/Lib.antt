@@ -1,9 +1,3 @@
--- The files of this folder: the definitions, then the laws.
-pub mod Text
+-- The files of this folder: definitions; laws about them.
 pub mod Listing
-pub mod Put
-pub mod Texts
-pub mod Puts
-pub mod Walks
-pub mod Listings
-pub mod Searched
+pub mod laws

@@ -6,12 +6,12 @@ use Prim.Native.Char.{code}
 use lib.Dec.{ltb}
 use lib.ListN.{length, drop}
 use Rattle.bits.specs.Bits.{bitsAt}
+use Rattle.text.specs.Text.{ascii, decimal, tabbed}
 use Rattle.block.specs.Block.{Block, count, subframeNumber}
-use Rattle.block.specs.Check.{acceptedAt}
+use Rattle.block_check.specs.Check.{acceptedAt}
 use Rattle.block.specs.Polarity.{polarityOf}
 use Rattle.block.specs.declared.polarity.Polarity.{Polarity}
 use Rattle.block.specs.declared.polarity.Polarity.the-variants.{Upright, Inverted}
-use Rattle.listing_text.specs.Text.{ascii, decimal, tabbed}
 
 -- The accepted places on the walk from p on, in at most n steps: after an accepted block at p it goes to p + 300, else to p + 1, until fewer than
 -- 302 bytes are left.

@@ -1,5 +1,4 @@
 // The text of the listing program (document 01, 'Listing program'), put into the caller's buffer.
 mod listing;
-mod text;
 
 pub use listing::list;

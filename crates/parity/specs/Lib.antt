@@ -1,12 +1,6 @@
--- The files of this folder: the definitions, then the laws.
+-- The files of this folder: definitions; internal, definitions that only private contracts cite; laws about them.
 pub mod Table
 pub mod Word
 pub mod Encode
-pub mod Masks
-pub mod Linear
-pub mod Local
-pub mod Equations
-pub mod Inverse
-pub mod Flips
-pub mod OneWord
-pub mod Fillers
+pub mod internal
+pub mod laws

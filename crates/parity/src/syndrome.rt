@@ -4,7 +4,7 @@ ghost use Prim.Native.Nat.{ℕ, _<_};
 ghost use lib.ListN.{getD};
 ghost use Rattle.bits.specs.Bits.{unpack};
 ghost use Rattle.parity.specs.Table.{line};
-ghost use Rattle.parity.specs.Masks.{maskOf};
+ghost use Rattle.parity.specs.internal.Masks.{maskOf};
 ghost use Rattle.parity.specs.Word.{failure, syndrome};
 
 // The lines of the parity table as masks of a packed window: P highest, then Q, then bits 1 to 30.
@@ -27,7 +27,7 @@ fn mask_table() -> [u32; 6]
 }
 
 // 1 where the equation in line k fails, else 0.
-pub(crate) fn equation_failure(window: u32, k: usize) -> u32
+fn equation_failure(window: u32, k: usize) -> u32
     requires { ⌜ k < 6 ⌝ }
     ensures { λ r. ⌜ r ≡ failure (unpack 32 window) (line k) ⌝ }
 {

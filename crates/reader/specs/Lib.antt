@@ -1,4 +1,3 @@
--- The files of this folder: the definitions, then the laws.
-pub mod Reading
-pub mod Readings
-pub mod SameRecord
+-- The files of this folder: definitions; laws about them.
+pub mod Reader
+pub mod laws

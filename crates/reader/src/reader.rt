@@ -9,7 +9,8 @@ ghost use mathlib.Core.Path.{_≡_};
 ghost use Rattle.bits.specs.Bits.{bitsAt};
 ghost use Rattle.block.specs.Block.{source};
 ghost use Rattle.record.specs.Source.{headerIn, recordOf};
-ghost use Rattle.reader.specs.Reading.{readingAnswer, reading};
+ghost use Rattle.reader.specs.Reader as Reader;
+ghost use Rattle.reader.specs.Reader.{readingAnswer};
 
 // The answer of the reader.
 pub enum Reading {
@@ -20,7 +21,7 @@ pub enum Reading {
 fn header_at(log: &[u8], p: usize) -> Header
     ensures { λ h. ⌜ h ≡ headerIn (source (bitsAt (now (log .entry)) p)) ⌝ }
 {
-    fields::header_from(numbers_at(log, p, 8, record::header_widths()))
+    from_numbers::header_from(numbers_at(log, p, 8, record::header_widths()))
 }
 
 fn record_at(log: &[u8], p: usize) -> Record
@@ -30,14 +31,14 @@ fn record_at(log: &[u8], p: usize) -> Record
     let data_id = number_at(log, p, 48, 2);
     let id = number_at(log, p, 50, 6);
     let kind = record::kind_for(header.subframe, data_id, id);
-    fields::record_from(kind, header, numbers_at(log, p, 48, record::widths(kind)))
+    from_numbers::record_from(kind, header, numbers_at(log, p, 48, record::widths(kind)))
 }
 
 // Reads the block at place p of a log.
 pub fn read(log: &[u8], p: usize) -> Reading
-    ensures { λ r. ⌜ readingAnswer r ≡ reading (now (log .entry)) p ⌝ }
+    ensures { λ r. ⌜ readingAnswer r ≡ Reader.read (now (log .entry)) p ⌝ }
 {
-    match block::check_block(log, p) {
+    match block_check::check_block(log, p) {
         Checked::Accepted => Reading::Accepted(record_at(log, p)),
         Checked::Refused(r) => Reading::Refused(r),
     }

@@ -1,14 +1,9 @@
--- The files of this folder: the definitions, then the laws.
+-- The files of this folder: definitions; laws about them.
 pub mod Kind
 pub mod Fields
 pub mod Record
+pub mod AsKind
 pub mod Writable
 pub mod Source
 pub mod Positions
-pub mod Sound
-pub mod Kinds
-pub mod Records
-pub mod Held
-pub mod Taken
-pub mod Returned
-pub mod PositionsHold
+pub mod laws

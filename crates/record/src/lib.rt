@@ -15,5 +15,6 @@ pub use record::Subframe1;
 pub use record::Subframe2;
 pub use record::Subframe3;
 pub use record::UtcPage;
+pub use tables::MOST_FIELDS;
 pub use tables::header_widths;
 pub use tables::widths;

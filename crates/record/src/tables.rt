@@ -4,9 +4,12 @@ ghost use mathlib.Core.Path.{_≡_};
 ghost use Rattle.layout.specs.Table as Table;
 ghost use Rattle.record.specs.Fields.{headerFields, fieldsOf};
 
-const HEADER: [usize; 19] = [14, 2, 17, 1, 1, 3, 0, 0, 0, 0, 0, 0, 0, 0, 0, 0, 0, 0, 0];
+// The fields of the longest kind, the UTC page.
+pub const MOST_FIELDS: usize = 19;
 
-const SUBFRAME1: [usize; 19] = [
+const HEADER: [usize; MOST_FIELDS] = [14, 2, 17, 1, 1, 3, 0, 0, 0, 0, 0, 0, 0, 0, 0, 0, 0, 0, 0];
+
+const SUBFRAME1: [usize; MOST_FIELDS] = [
     10,
     2,
     4,
@@ -28,7 +31,7 @@ const SUBFRAME1: [usize; 19] = [
     0,
 ];
 
-const SUBFRAME2: [usize; 19] = [
+const SUBFRAME2: [usize; MOST_FIELDS] = [
     8,
     16,
     16,
@@ -50,7 +53,7 @@ const SUBFRAME2: [usize; 19] = [
     0,
 ];
 
-const SUBFRAME3: [usize; 19] = [
+const SUBFRAME3: [usize; MOST_FIELDS] = [
     16,
     32,
     16,
@@ -72,7 +75,7 @@ const SUBFRAME3: [usize; 19] = [
     0,
 ];
 
-const ALMANAC: [usize; 19] = [
+const ALMANAC: [usize; MOST_FIELDS] = [
     2,
     6,
     16,
@@ -94,9 +97,9 @@ const ALMANAC: [usize; 19] = [
     0,
 ];
 
-const UTC: [usize; 19] = [2, 6, 8, 8, 8, 8, 8, 8, 8, 8, 24, 32, 8, 8, 8, 8, 8, 8, 14];
+const UTC: [usize; MOST_FIELDS] = [2, 6, 8, 8, 8, 8, 8, 8, 8, 8, 24, 32, 8, 8, 8, 8, 8, 8, 14];
 
-const OTHER: [usize; 19] = [
+const OTHER: [usize; MOST_FIELDS] = [
     2,
     6,
     16,
@@ -119,14 +122,14 @@ const OTHER: [usize; 19] = [
 ];
 
 // The widths of the header's fields.
-pub fn header_widths() -> [usize; 19]
+pub fn header_widths() -> [usize; MOST_FIELDS]
     ensures { λ r. ⌜ r ≡ Table.widths 19 headerFields ⌝ }
 {
     HEADER
 }
 
 // The widths of a kind's fields.
-pub fn widths(kind: Kind) -> [usize; 19]
+pub fn widths(kind: Kind) -> [usize; MOST_FIELDS]
     ensures { λ r. ⌜ r ≡ Table.widths 19 (fieldsOf kind) ⌝ }
 {
     match kind {

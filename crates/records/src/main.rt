@@ -12,8 +12,8 @@ use record::Subframe1;
 use record::Subframe2;
 use record::Subframe3;
 use record::UtcPage;
+use search::Found;
 ghost use mathlib.Core.Path.{_≡_};
-ghost use Prim.Native.Nat.{_≤_};
 ghost use lib.ListN.{length};
 
 fn print_name(name: &[u8]) {
@@ -181,24 +181,23 @@ fn print_line(p: usize, record: Record) {
     io::write_all(STDOUT_FILENO, b"\n");
 }
 
-// Prints the line of the block at p if it is accepted, and gives the step from p to the next place.
-fn print_block(log: &[u8], p: usize) -> usize
-    ensures { λ r. ⌜ (1 ≤ r) × (r ≤ 300) ⌝ }
-{
+// Prints the line of the block at p, and nothing if it is refused.
+fn print_block(log: &[u8], p: usize) {
     match reader::read(log, p) {
-        Reading::Accepted(record) => {
-            print_line(p, record);
-            300
-        }
-        Reading::Refused(_) => 1,
+        Reading::Accepted(record) => print_line(p, record),
+        Reading::Refused(_) => {}
     }
 }
 
-// Walks the log from place 0, by 300 after an accepted block and else by 1, until fewer than 302 bytes are left.
+// Walks the log: finds the next block, prints it, and goes on 300 places after its place.
 fn print_log(log: &[u8]) {
     let mut p: usize = 0;
-    while 302 <= log.len() - p {
-        p += print_block(log, p);
+    loop {
+        let Found::At(q) = search::find(log, p) else {
+            return;
+        };
+        print_block(log, q);
+        p = q + block::BLOCK_STEP;
     }
 }
 

@@ -61,7 +61,7 @@ fn header_for(choice: Choice, subframe: u32) -> Header {
     let mut n = numbers_for(choice, record::header_widths());
     n[2] = count_for(choice);
     n[5] = subframe;
-    fields::header_from(n)
+    from_numbers::header_from(n)
 }
 
 // The numbers of words 3 to 10. The af0 of an almanac page has 11 bits, and entry 13 is the low 3 of them.
@@ -74,14 +74,14 @@ fn fields_for(choice: Choice, kind: Kind) -> [u32; 19] {
 }
 
 fn subframe_record(choice: Choice, kind: Kind, subframe: u32) -> Record {
-    fields::record_from(kind, header_for(choice, subframe), fields_for(choice, kind))
+    from_numbers::record_from(kind, header_for(choice, subframe), fields_for(choice, kind))
 }
 
 fn page_record(choice: Choice, kind: Kind, page: Page) -> Record {
     let mut n = fields_for(choice, kind);
     n[0] = page.1;
     n[1] = page.2;
-    fields::record_from(kind, header_for(choice, page.0), n)
+    from_numbers::record_from(kind, header_for(choice, page.0), n)
 }
 
 // SV IDs 1 to 24 stand in subframe 5, and 25 to 32 in subframe 4 (document 000, Table 20-V).

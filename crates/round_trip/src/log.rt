@@ -5,14 +5,16 @@ use answer::Checked;
 use libc::STDIN_FILENO;
 use reader::Reading;
 use record::Record;
+use search::Found;
 ghost use mathlib.Core.Path.{_≡_};
 ghost use mathlib.Core.Bool.{true};
 ghost use Prim.Native.Nat.{_≤_};
 ghost use lib.Dec.{eqb};
 ghost use lib.ListN.{length, getD};
-ghost use Rattle.bits.specs.Every.{everyBelow};
+ghost use Rattle.reader.specs.Reader as Reader;
+ghost use Rattle.finite.specs.Every.{everyBelow};
 ghost use Rattle.answer.specs.Answer.{accepted};
-ghost use Rattle.reader.specs.Reading.{reading};
+ghost use Rattle.block_check.specs.Compare.{Accepted};
 
 // How many blocks of a log are accepted, and how many of them come back unchanged.
 struct Tally {
@@ -37,7 +39,7 @@ fn same_block(a: &[u8], b: &[u8]) -> bool
 
 // Whether the record that was read at p, written with the block's polarity, is the block. The contract says that it always is.
 fn comes_back(log: &[u8], p: usize, r: Record) -> bool
-    requires { ⌜ reading (now log) p ≡ accepted r ⌝ }
+    requires { ⌜ Reader.read (now log) p ≡ accepted r ⌝ }
     ensures { λ t. ⌜ t ≡ true ⌝ }
 {
     let mut block = [0u8; 302];
@@ -47,26 +49,34 @@ fn comes_back(log: &[u8], p: usize, r: Record) -> bool
     }
 }
 
-// Counts the blocks on a walk from place 0, by 300 after an accepted block and else by 1, until fewer than 302 bytes are left.
+// Whether the block at p comes back unchanged when it is read and written again. The contract says that an accepted block does.
+fn block_comes_back(log: &[u8], p: usize) -> bool
+    requires { ⌜ Accepted (now log) p ⌝ }
+    ensures { λ t. ⌜ t ≡ true ⌝ }
+{
+    match reader::read(log, p) {
+        Reading::Accepted(r) => comes_back(log, p, r),
+        Reading::Refused(_) => false,
+    }
+}
+
+// Walks the log: finds the next block, counts it, and goes on 300 places after its place.
 fn walk(log: &[u8]) -> Tally
     ensures { λ r. ⌜ r .unchanged ≡ r .blocks ⌝ }
 {
     let mut blocks: usize = 0;
     let mut unchanged: usize = 0;
     let mut p: usize = 0;
-    while 302 <= log.len() - p {
-        match reader::read(log, p) {
-            Reading::Accepted(r) => {
-                blocks += 1;
-                if comes_back(log, p, r) {
-                    unchanged += 1;
-                }
-                p += 300;
-            }
-            Reading::Refused(_) => p += 1,
+    loop {
+        let Found::At(q) = search::find(log, p) else {
+            return Tally { blocks, unchanged };
+        };
+        blocks += 1;
+        if block_comes_back(log, q) {
+            unchanged += 1;
         }
+        p = q + block::BLOCK_STEP;
     }
-    Tally { blocks, unchanged }
 }
 
 fn print_tally(tally: Tally) {

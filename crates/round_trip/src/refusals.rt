@@ -16,7 +16,7 @@ fn record_with(kind: Kind, subframe: u32, count: u32, first: u32, second: u32) -
     let mut fields = [0u32; 19];
     fields[0] = first;
     fields[1] = second;
-    fields::record_from(kind, fields::header_from(header), fields)
+    from_numbers::record_from(kind, from_numbers::header_from(header), fields)
 }
 
 // A subframe 1 record with this TGD. Its other fields are 0.

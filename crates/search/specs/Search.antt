@@ -5,11 +5,11 @@ use Prim.Native.Nat.{ℕ, _-_, _<_, _≤_}
 use lib.Dec.{leb, ltb}
 use lib.ListN.{length, take, drop}
 use Rattle.bits.specs.Bits.{bitsAt}
-use Rattle.bits.specs.First.{firstFrom}
+use Rattle.finite.specs.First.{firstFrom}
 use Rattle.answer.specs.Answer.{Answer, accepted, refused, refuseIf, refusalAnswer}
 use Rattle.block.specs.Block.{source}
-use Rattle.block.specs.Check.{acceptedAt}
-use Rattle.block.specs.Compare.{Accepted, Equal}
+use Rattle.block_check.specs.Check.{acceptedAt}
+use Rattle.block_check.specs.Compare.{Accepted, Equal}
 use Rattle.search.specs.declared.place.Found.{Found}
 use Rattle.search.specs.declared.place.Found.the-variants.{At, Refused}
 
@@ -24,8 +24,8 @@ unfoldable pub firstPlace : List ℕ → ℕ → ℕ
 firstPlace s p = firstFrom (acceptedAt s) p (length s - p)
 
 -- numbers 1 and 10, or the place
-unfoldable pub searching : List ℕ → ℕ → Answer ℕ
-searching s p =
+unfoldable pub find : List ℕ → ℕ → Answer ℕ
+find s p =
     refuseIf (ltb 65536 (length s)) 1 (length s)
     (refuseIf (leb (length s) (firstPlace s p)) 10 p
     (accepted (firstPlace s p)))

@@ -1,9 +1,11 @@
 // The place of the first accepted block at or after a given place, or a refusal by number 1 or 10.
 use answer::Refusal;
+use answer::refusal_by;
 ghost use mathlib.Core.Path.{_≡_};
 ghost use Prim.Native.Nat.{_≤_};
 ghost use lib.ListN.{length};
-ghost use Rattle.search.specs.Search.{foundAnswer, firstPlace, searching};
+ghost use Rattle.search.specs.Search as Search;
+ghost use Rattle.search.specs.Search.{foundAnswer, firstPlace};
 
 // The answer of the search.
 pub enum Found {
@@ -21,7 +23,7 @@ fn first_from(log: &&[u8], p: usize) -> usize
     if bytes.len() <= p {
         return p;
     }
-    if block::accepted_at(bytes, p) {
+    if quick::accepted_at(bytes, p) {
         return p;
     }
     first_from(log, p + 1)
@@ -29,20 +31,14 @@ fn first_from(log: &&[u8], p: usize) -> usize
 
 // Searches a log from place p on.
 pub fn find(log: &[u8], p: usize) -> Found
-    ensures { λ r. ⌜ foundAnswer r ≡ searching (now (log .entry)) p ⌝ }
+    ensures { λ r. ⌜ foundAnswer r ≡ Search.find (now (log .entry)) p ⌝ }
 {
-    if 65536 < log.len() {
-        return Found::Refused(Refusal {
-            number: 1,
-            detail: log.len(),
-        });
+    if block::LOG_LIMIT < log.len() {
+        return Found::Refused(refusal_by(1, log.len()));
     }
     let q = first_from(&log, p);
     if log.len() <= q {
-        return Found::Refused(Refusal {
-            number: 10,
-            detail: p,
-        });
+        return Found::Refused(refusal_by(10, p));
     }
     Found::At(q)
 }

@@ -1,9 +1,4 @@
--- The files of this folder: the definitions, then the laws.
+-- The files of this folder: definitions; laws about them.
 pub mod Leap
 pub mod Time
-pub mod Ways
-pub mod Answers
-pub mod Pages
-pub mod Days
-pub mod LeapWeeks
-pub mod Times
+pub mod laws

@@ -49,8 +49,8 @@ unfoldable pub isDay : ℕ → Bool
 isDay dn = leb 1 dn && leb dn 7
 
 -- numbers 11, 14, 15 and 16 (negsuc 127 is -128), then the time
-unfoldable pub timeQuestion : UtcPage → ℕ → ℕ → Answer TimeOfDay
-timeQuestion page week second =
+unfoldable pub timeOfDay : UtcPage → ℕ → ℕ → Answer TimeOfDay
+timeOfDay page week second =
     refuseIf (not (writable (R.Utc page))) 11 0
     (refuseIf (not (isGpsSecond week second)) 14 0
     (refuseIf (not (isDay (page .dn))) 15 (page .dn)

@@ -5,23 +5,18 @@ use crate::day::time_at;
 use crate::leap::leap_moment;
 use crate::leap::week_difference;
 use answer::Refusal;
+use answer::refusal_by;
 use record::Record;
 use record::UtcPage;
 ghost use mathlib.Core.Path.{_≡_};
 ghost use Prim.Native.Nat.{_<_, _≤_};
-ghost use Rattle.answer.specs.Answer as Answer;
-ghost use Rattle.utc.specs.Time.{givenTimeAnswer, isGpsSecond, isDay, gpsTime, offsetAt, secondOfDay, timeQuestion};
+ghost use Rattle.utc.specs.Time as Time;
+ghost use Rattle.utc.specs.Time.{givenTimeAnswer, isGpsSecond, isDay, gpsTime, offsetAt, secondOfDay};
 
 // The answer to the question for the time of day.
 pub enum GivenTime {
     Given(TimeOfDay),
     Refused(Refusal),
-}
-
-fn refused(number: u8, detail: usize) -> GivenTime
-    ensures { λ r. ⌜ givenTimeAnswer r ≡ Answer.refused number detail ⌝ }
-{
-    GivenTime::Refused(Refusal { number, detail })
 }
 
 // Whether number 14 lets the week and the second pass.
@@ -75,19 +70,19 @@ fn second_of_day(page: UtcPage, week: u32, second: u32) -> u32
 
 // The time of day in UTC at a second of a full week, by a UTC page that the writer takes.
 pub fn time_of_day(page: UtcPage, week: u32, second: u32) -> GivenTime
-    ensures { λ r. ⌜ givenTimeAnswer r ≡ timeQuestion page week second ⌝ }
+    ensures { λ r. ⌜ givenTimeAnswer r ≡ Time.timeOfDay page week second ⌝ }
 {
-    if !fields::writable(Record::Utc(page)) {
-        return refused(11, 0);
+    if !writable::writable(Record::Utc(page)) {
+        return GivenTime::Refused(refusal_by(11, 0));
     }
     if !is_gps_second(week, second) {
-        return refused(14, 0);
+        return GivenTime::Refused(refusal_by(14, 0));
     }
     if !is_day(page.dn) {
-        return refused(15, page.dn as usize);
+        return GivenTime::Refused(refusal_by(15, page.dn as usize));
     }
     if week_difference(page.wnlsf, week) == -128 {
-        return refused(16, 0);
+        return GivenTime::Refused(refusal_by(16, 0));
     }
     GivenTime::Given(time_at(second_of_day(page, week, second)))
 }

@@ -1,3 +1,3 @@
--- The files of this folder: the definitions, then the laws.
+-- The files of this folder: definitions; laws about them.
 pub mod Values
-pub mod Machine
+pub mod laws

@@ -1,2 +1,2 @@
--- The files of this folder: definitions.
-pub mod Line
+-- The files of this folder: internal, definitions that only private contracts cite.
+pub mod internal

@@ -1,11 +1,4 @@
--- The files of this folder: the definitions, then the laws.
+-- The files of this folder: definitions; laws about them.
 pub mod Written
-pub mod Writing
-pub mod Put
-pub mod Puts
-pub mod Message
-pub mod Words
-pub mod Carrying
-pub mod Writings
-pub mod WrittenReads
-pub mod RoundTrip
+pub mod Writer
+pub mod laws

@@ -4,27 +4,17 @@ use mathlib.Core.List.{List}
 use Prim.Native.Nat.{ℕ, zero, suc, _+_, _-_, _*_, _/_, _%_, _≤_}
 use lib.Dec.{eqb, ltb}
 use lib.ListN.{length}
-use Rattle.bits.specs.Bits.{Bits, bitsAt, unpack}
+use Rattle.message_bits.specs.Message.{messageOf}
+use Rattle.bits.specs.Bits.{Bits, bitsAt}
 use Rattle.parity.specs.Word.{Window}
 use Rattle.parity.specs.Encode.{encode, encodeEnding}
 use Rattle.block.specs.Block.{Block}
-use Rattle.block.specs.Compare.{Equal}
+use Rattle.block_check.specs.Compare.{Equal}
 use Rattle.block.specs.Polarity.{startBit}
 use Rattle.block.specs.declared.polarity.Polarity.{Polarity}
-use Rattle.record.specs.Source.{headerBits, recordBits}
 use Rattle.record.specs.declared.record.Record.{Record}
 
--- The 240 source bits of a record, with 0 for the fillers (46, 47, 238 and 239): the preamble, from index 8 on the header, from index 48 on the
--- fields of words 3 to 10.
-unfoldable pub messageOf : Record → Bits
-messageOf r i =
-    cond (ltb i 8) (unpack 8 0b10001011 i)
-    (cond (ltb i 46) (headerBits r (i - 8))
-    (cond (ltb i 48) 0
-    (cond (ltb i 238) (recordBits r (i - 48))
-    0)))
-
--- Below, m is such source bits, and a both bits of the start pair.
+-- Below, m is the 240 source bits of a message, and a both bits of the start pair.
 
 -- source bit i of word k
 unfoldable pub wordSource : Bits → ℕ → Bits

@@ -1,6 +1,4 @@
 // The writer: the block of a record.
-mod message;
-mod put;
 mod words;
 mod writer;
 

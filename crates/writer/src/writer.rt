@@ -1,14 +1,15 @@
 // The writer's answer, and the block in the caller's buffer.
-use crate::message::message_of;
 use crate::words::put_block;
 use answer::Checked;
-use answer::refused;
+use answer::refusal_by;
 use block::Polarity;
+use message_bits::message_of;
 use record::Record;
 ghost use mathlib.Core.Path.{_≡_};
 ghost use Rattle.answer.specs.Answer.{checkedAnswer};
 ghost use Rattle.block.specs.Polarity.{startBit};
-ghost use Rattle.writer.specs.Writing.{writing, bufferAfter};
+ghost use Rattle.writer.specs.Writer as Writer;
+ghost use Rattle.writer.specs.Writer.{bufferAfter};
 
 fn start_bit(polarity: Polarity) -> u32
     ensures { λ a. ⌜ a ≡ startBit polarity ⌝ }
@@ -21,13 +22,13 @@ fn start_bit(polarity: Polarity) -> u32
 
 // Writes the block of a record into the first 302 bytes of a buffer, or refuses and leaves the buffer as it was.
 pub fn write(r: Record, polarity: Polarity, buf: &mut [u8]) -> Checked
-    ensures { λ w. ⌜ (checkedAnswer w ≡ writing r (now (buf .entry))) × (now (buf .exit) ≡ bufferAfter r polarity (now (buf .entry))) ⌝ }
+    ensures { λ w. ⌜ (checkedAnswer w ≡ Writer.write r (now (buf .entry))) × (now (buf .exit) ≡ bufferAfter r polarity (now (buf .entry))) ⌝ }
 {
-    if !fields::writable(r) {
-        return refused(11, 0);
+    if !writable::writable(r) {
+        return Checked::Refused(refusal_by(11, 0));
     }
-    if buf.len() < 302 {
-        return refused(12, buf.len());
+    if buf.len() < block::BLOCK_BYTES {
+        return Checked::Refused(refusal_by(12, buf.len()));
     }
     let message = message_of(r);
     put_block(buf, &message, start_bit(polarity));

@@ -1,18 +1,31 @@
--- `print_walk` is safe and ends. The invariant: the place lies in the log. The measure is what is left of the log.
-use Prim.Native.Nat.{_≤_, _-_}
+-- `print_walk` is safe and ends. The measure is what is left of the log, and a block that is found stands in it.
+use Prim.Native.Nat.{_-_}
 use native.Mathlib.Omega.{arith}
 use borrow.Author.Needs.{needs}
 use lib.ListN.{length}
+use Rattle.search.specs.laws.Search.{found-inside}
 use Rattle.course.proofs.print_walk.Statement.{statement}
 use Rattle.course.proofs.print_walk.Tie as tie
 
 abbrev Inv-loop : tie.InvT-loop
-Inv-loop log c₀ p₀ c p = p ≤ length log
+Inv-loop log c₀ p₀ c p = Unit {0}
 
 abbrev μ-loop : tie.MeasureT-loop
 μ-loop log c₀ p₀ c p = length log - p
 
+add-p : tie.Need-add-p Inv-loop μ-loop
+add-p c =
+    let found = c .before .before .before in
+    let inside = found-inside _ _ (found .before .before .find .ensures) (found .q .given .1) in
+    omega (arith, inside .1)
+
+loop-less : tie.Need-loop-less Inv-loop μ-loop
+loop-less c =
+    let found = c .before .before .before in
+    let inside = found-inside _ _ (found .before .before .find .ensures) (found .q .given .1) in
+    omega (arith, inside .0, inside .1)
+
 pub print-walk-spec : {M : Type 1} → statement M
 print-walk-spec =
     tie.close
-    (tie.spec Inv-loop μ-loop (λ c κs. tt) (λ c. omega arith) (λ c. omega arith) (λ c κs. tt) (λ c. search needs) (λ c κs. tt) (λ c κs. tt) (λ c. omega arith) (λ c. omega arith) (λ c. omega arith) (λ c. search needs) (λ c. omega arith) (λ c. omega arith) (λ c. omega arith) (λ c. tt))
+    (tie.spec Inv-loop μ-loop (λ c κs. tt) (λ c. tt) (λ c κs. tt) (λ c. search needs) (λ c. search needs) (λ c. tt) (λ c κs. tt) (λ c κs. tt) add-p loop-less (λ c. tt))

@@ -7,11 +7,11 @@ use denote.Ref.{now}
 use lib.ListN.{length, getD}
 use mir.Syntax.{w64}
 use mir.Val.{Fits}
+use Rattle.finite.specs.laws.Least.{least-le}
 use Rattle.collector.specs.Feed.{fed}
 use Rattle.collector.specs.History.{reached}
 use Rattle.collector.specs.declared.held.Collector.{Collector}
 use Rattle.histories.specs.FromSlices.{feeds, history}
-use Rattle.histories.specs.Least.{least-le}
 use Rattle.histories.proofs.collected.Statement.{statement}
 use Rattle.histories.proofs.collected.Tie as tie
 

@@ -1,7 +1,7 @@
 -- `least_of` meets its contract.
 use mathlib.Core.Path.{sym}
 use borrow.Author.Tests.{lt-ltb, le-ltb}
-use Rattle.histories.specs.FromSlices.{least}
+use Rattle.finite.specs.Least.{least}
 use Rattle.histories.proofs.least_of.Statement.{statement}
 use Rattle.histories.proofs.least_of.Tie as tie
 

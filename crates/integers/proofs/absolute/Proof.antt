@@ -10,7 +10,7 @@ use lib.Signed.{ltZ}
 use mir.Syntax.{w32, w64}
 use mir.Val.{Fits, toZ, ofZ}
 use mir.ValLaws.{toZ-ofZ}
-use Rattle.integers.specs.Machine.{Small, of-width, literal, difference, stored, fits-of, cast-of}
+use Rattle.integers.specs.laws.Machine.{Small, of-width, literal, difference, stored, fits-of, cast-of}
 use Rattle.integers.proofs.absolute.Statement.{statement}
 use Rattle.integers.proofs.absolute.Tie as tie
 

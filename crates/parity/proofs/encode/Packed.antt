@@ -8,14 +8,14 @@ use borrow.Author.Tests.{lt-ltb, le-ltb}
 use lib.Dec.{ltb, lit<}
 use lib.Pow.{shr-shr}
 use Rattle.bits.specs.Bits.{_⊕_, Bits, pack, unpack}
-use Rattle.bits.specs.Pack.{pack-equal, unpack-pack}
-use Rattle.bits.specs.Parts.{pack-append}
+use Rattle.bits.specs.laws.Pack.{pack-equal, unpack-pack}
+use Rattle.bits.specs.laws.Parts.{pack-append}
 use Rattle.parity.specs.Table.{line}
 use Rattle.parity.specs.Word.{Window, sourceBit, parityBit, failure, syndrome}
 use Rattle.parity.specs.Encode.{sourceOf, dataBits, encode, withFillers}
-use Rattle.parity.specs.Local.{Agree, line-bit, parityBit-agree}
-use Rattle.parity.specs.OneWord.{encode-data, encode-parity}
-use Rattle.parity.specs.Fillers.{by-fillers, fillers-keep}
+use Rattle.parity.specs.laws.Local.{Agree, line-bit, parityBit-agree}
+use Rattle.parity.specs.laws.OneWord.{encode-data, encode-parity}
+use Rattle.parity.specs.laws.Fillers.{by-fillers, fillers-keep}
 
 zeros : pack 6 (λ k. 0) ≡ 0
 unfolding pack

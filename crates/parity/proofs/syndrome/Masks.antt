@@ -4,16 +4,16 @@ use Prim.Native.Nat.{ℕ, _%_, _^_, _<_}
 use lib.Bits.{bitAnd, bitXor}
 use lib.Count.{ones}
 use Rattle.bits.specs.Bits.{pack, unpack, xor, unitAt}
-use Rattle.bits.specs.Xor.{xor-bit}
-use Rattle.bits.specs.Pack.{pack-unpack}
-use Rattle.bits.specs.Columns.{columns}
-use Rattle.bits.specs.Masks.{masked}
+use Rattle.bits.specs.laws.Xor.{xor-bit}
+use Rattle.bits.specs.laws.Pack.{pack-unpack}
+use Rattle.bits.specs.laws.Columns.{columns}
+use Rattle.bits.specs.laws.Masks.{masked}
 use Rattle.parity.specs.Table.{line}
 use Rattle.parity.specs.Word.{Window, failure}
-use Rattle.parity.specs.Masks.{maskOf}
-use Rattle.parity.specs.Linear.{failure-linear}
-use Rattle.parity.specs.Local.{failure-local}
-use Rattle.parity.specs.Equations.{failure-lt}
+use Rattle.parity.specs.internal.Masks.{maskOf}
+use Rattle.parity.specs.laws.Linear.{failure-linear}
+use Rattle.parity.specs.laws.Local.{failure-local}
+use Rattle.parity.specs.laws.Equations.{failure-lt}
 
 packed-failure : (k : ℕ) → k < 6 → (u : Window) → ones (bitAnd (pack 32 u) (maskOf k)) % 2 ≡ failure u (line k)
 unfolding maskOf

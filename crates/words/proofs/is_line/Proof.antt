@@ -9,8 +9,8 @@ use borrow.Author.Needs.{needs}
 use borrow.Author.Tests.{eq-eqb, ne-eqb, not-true, not-false}
 use lib.Dec.{eqb}
 use lib.ListN.{length, getD}
-use Rattle.bits.specs.Tests.{everyBelow-true, everyBelow-false}
-use Rattle.words.specs.Line.{isDigit, isLine}
+use Rattle.finite.specs.laws.Every.{everyBelow-true, everyBelow-false}
+use Rattle.words.specs.internal.Line.{isDigit, isLine}
 use Rattle.words.proofs.is_line.Statement.{statement}
 use Rattle.words.proofs.is_line.Tie as tie
 

@@ -3,7 +3,7 @@ use mathlib.Core.Path.{refl}
 use native.Mathlib.Omega.{arith}
 use borrow.Author.Needs.{needs}
 use Rattle.block.specs.Block.{count}
-use Rattle.block.proofs.check.Packed.{field-at}
+use Rattle.block.specs.laws.Packed.{field-at}
 use Rattle.block.proofs.handover.count_at.Statement.{statement}
 use Rattle.block.proofs.handover.count_at.Tie as tie
 

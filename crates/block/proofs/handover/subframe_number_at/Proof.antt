@@ -3,7 +3,7 @@ use mathlib.Core.Path.{refl}
 use native.Mathlib.Omega.{arith}
 use borrow.Author.Needs.{needs}
 use Rattle.block.specs.Block.{subframeNumber}
-use Rattle.block.proofs.check.Packed.{field-at}
+use Rattle.block.specs.laws.Packed.{field-at}
 use Rattle.block.proofs.handover.subframe_number_at.Statement.{statement}
 use Rattle.block.proofs.handover.subframe_number_at.Tie as tie
 

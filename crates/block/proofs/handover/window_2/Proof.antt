@@ -6,7 +6,7 @@ use native.Mathlib.Omega.{arith}
 use borrow.Author.Needs.{needs}
 use lib.ListN.{length, List·getD-eq-default}
 use Rattle.bits.specs.Bits.{bitsAt, pack}
-use Rattle.bits.specs.Pack.{pack-equal}
+use Rattle.bits.specs.laws.Pack.{pack-equal}
 use Rattle.block.proofs.handover.window_2.Statement.{statement}
 use Rattle.block.proofs.handover.window_2.Tie as tie
 
@@ -20,22 +20,13 @@ returns c =
     let a = c .before .before .args in
     past-end (a .log .now) (a .p + 30) (omega arith)
 
-sub-if2 : tie.Need-sub-if2
-sub-if2 c = search needs
-
 returns-2 : tie.Need-returns-2
 returns-2 c =
     let a = c .before .before .before .args in
     past-end (a .log .now) (a .p + 30) (omega arith)
 
-add-packed-window : tie.Need-add-packed-window
-add-packed-window c = search needs
-
-packed-window-requires : tie.Need-packed-window-requires
-packed-window-requires c κs = search needs
-
 returns-3 : tie.Need-returns-3
 returns-3 c = c .packed-window .ensures
 
 pub window-2-spec : {M : Type 1} → statement M
-window-2-spec = tie.close (tie.spec returns sub-if2 returns-2 add-packed-window packed-window-requires returns-3)
+window-2-spec = tie.close (tie.spec returns (λ c. search needs) returns-2 (λ c. search needs) (λ c κs. search needs) returns-3)

@@ -4,13 +4,13 @@ use borrow.Author.Needs.{needs}
 use lib.Dec.{lit<}
 use lib.Ieee.{ofBits}
 use mir.Syntax.{w32}
-use Rattle.doubles.specs.Products.{field-times-power}
-use Rattle.clock.specs.Terms.{clockTerms}
+use Rattle.clock.specs.Terms as Terms
+use Rattle.doubles.specs.laws.Products.{field-times-power}
 use Rattle.clock.proofs.terms.terms_of.Statement.{statement}
 use Rattle.clock.proofs.terms.terms_of.Tie as tie
 
 returns : tie.Need-returns
-unfolding ofBits clockTerms
+unfolding ofBits Terms.termsOf
 returns c =
     let r = c .before .before .before .before .before .before .before .before .args .r in
     let at-tgd = c .struct-told4 .given .1 .1 .1 .1 .1 .1 .1 .1 .1 .1 .1 in

@@ -4,7 +4,7 @@ use mathlib.Core.Option.{some}
 use borrow.Author.Needs.{needs}
 use borrow.Author.Tests.{le-ltb, lt-ltb}
 use Rattle.clock.specs.Accuracy.{predicted, tenths, nearestTenths, accuracyFor}
-use Rattle.clock.specs.Accuracies.{mapped-at}
+use Rattle.clock.specs.laws.Accuracy.{mapped-at}
 use Rattle.clock.proofs.ura.accuracy_for.Statement.{statement}
 use Rattle.clock.proofs.ura.accuracy_for.Tie as tie
 

@@ -1,6 +1,6 @@
 -- `subframe3_from` meets its contract: each field is what its call ensures (ck is after call k).
 use lib.Dec.{lit<}
-use Rattle.integers.specs.Machine.{as-held}
+use Rattle.integers.specs.laws.Machine.{as-held}
 use Rattle.from_values.specs.FromValues.{subframe3From}
 use Rattle.from_values.proofs.kinds.subframe3_from.Statement.{statement}
 use Rattle.from_values.proofs.kinds.subframe3_from.Tie as tie

@@ -4,7 +4,7 @@ use lib.ListN.{getD}
 use borrow.Author.Needs.{needs}
 use denote.Ref.{now}
 use mir.Syntax.{w64}
-use Rattle.integers.specs.Machine.{of-handed}
+use Rattle.integers.specs.laws.Machine.{of-handed}
 use Rattle.from_values.specs.FromValues.{natural32}
 use Rattle.from_values.proofs.numbers.natural_at.Statement.{statement}
 use Rattle.from_values.proofs.numbers.natural_at.Tie as tie

@@ -6,7 +6,7 @@ use lib.IntN.{ℤ, pos, natAbs}
 use mir.Syntax.{w64}
 use mir.Val.{toZ, ofZ}
 use mir.ValLaws.{toZ-ofZ}
-use Rattle.from_values.specs.Machine.{natural-fits}
+use Rattle.from_values.specs.laws.Machine.{natural-fits}
 use Rattle.from_values.specs.FromValues.{between, natural32}
 use Rattle.from_values.proofs.numbers.natural_of.Statement.{statement}
 use Rattle.from_values.proofs.numbers.natural_of.Tie as tie

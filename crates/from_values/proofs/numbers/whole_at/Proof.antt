@@ -3,7 +3,7 @@ use lib.IntN.{pos}
 use lib.ListN.{getD}
 use borrow.Author.Needs.{needs}
 use denote.Ref.{now}
-use Rattle.from_values.specs.Machine.{whole-entry}
+use Rattle.from_values.specs.laws.Machine.{whole-entry}
 use Rattle.from_values.proofs.numbers.whole_at.Statement.{statement}
 use Rattle.from_values.proofs.numbers.whole_at.Tie as tie
 

@@ -7,7 +7,7 @@ use lib.IntN.{ℤ, pos, negsuc}
 use mir.Syntax.{w32, w64}
 use mir.Val.{SFits, toZ, ofZ}
 use mir.ValLaws.{toZ-ofZ}
-use Rattle.from_values.specs.Machine.{whole-fits}
+use Rattle.from_values.specs.laws.Machine.{whole-fits}
 use Rattle.from_values.specs.FromValues.{between, whole32}
 use Rattle.from_values.proofs.numbers.whole_of.Statement.{statement}
 use Rattle.from_values.proofs.numbers.whole_of.Tie as tie

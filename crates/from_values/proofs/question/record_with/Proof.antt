@@ -2,11 +2,12 @@
 use mathlib.Core.Path.{_≡_, sym, ap, _∙_}
 use mathlib.Core.Bool.{false, not}
 use denote.Ref.{now}
-use Rattle.answer.specs.Answer.{accepted}
-use Rattle.answer.specs.Lines.{line-refuses, line-passes}
-use Rattle.from_values.specs.Having.{values-test}
+use Rattle.answer.specs.Answer.{accepted, refusalAnswer}
+use Rattle.answer.specs.laws.Lines.{line-refuses, line-passes}
+use Rattle.from_values.specs.laws.Having.{values-test}
 use Rattle.values.specs.Values.{valuesOf}
-use Rattle.from_values.specs.FromValues.{isKindNumber, having, givenRecordAnswer, recordQuestion}
+use Rattle.from_values.specs.FromValues as FromValues
+use Rattle.from_values.specs.FromValues.{isKindNumber, having, givenRecordAnswer}
 use Rattle.from_values.proofs.question.record_with.Statement.{statement}
 use Rattle.from_values.proofs.question.record_with.Tie as tie
 
@@ -14,18 +15,18 @@ passes : (c : tie.Else1) → not (isKindNumber (c .before .before .args .kind)) 
 passes c = ap not (sym (c .before .is-kind-number .ensures)) ∙ c .if1 .left
 
 returns : tie.Need-returns
-unfolding recordQuestion
-returns c = c .refused .ensures ∙ sym (line-refuses _ 11 0 _ (ap not (sym (c .before .before .is-kind-number .ensures)) ∙ c .before .if1 .taken))
+unfolding FromValues.recordWith givenRecordAnswer
+returns c = ap refusalAnswer (c .refusal-by .ensures) ∙ sym (line-refuses _ 11 0 _ (ap not (sym (c .before .before .is-kind-number .ensures)) ∙ c .before .if1 .taken))
 
 returns-2 : tie.Need-returns-2
-unfolding recordQuestion having
+unfolding FromValues.recordWith having givenRecordAnswer
 returns-2 c =
     let d = c .before .before .before .before in
-    c .refused2 .ensures
+    ap refusalAnswer (c .refusal-by2 .ensures)
     ∙ sym (line-passes _ 11 0 _ (passes (d .before)) ∙ line-refuses _ 11 0 _ (values-test valuesOf (now (d .before .before .before .args .v)) (d .record-from .ensures) (c .before .before .before .values-of .ensures) (c .before .before .same-values .ensures) (c .before .if2 .taken)))
 
 returns-3 : tie.Need-returns-3
-unfolding givenRecordAnswer recordQuestion having
+unfolding givenRecordAnswer FromValues.recordWith having
 returns-3 c =
     let d = c .before .before .before in
     ap accepted (d .record-from .ensures)

@@ -9,10 +9,10 @@ use lib.IntN.{pos}
 use lib.ListN.{getD}
 use mir.Syntax.{w64}
 use mir.Val.{ofZ}
-use Rattle.bits.specs.Tests.{everyBelow-true, everyBelow-false}
+use Rattle.finite.specs.laws.Every.{everyBelow-true, everyBelow-false}
 use Rattle.integers.specs.Whole.{eqZ}
-use Rattle.integers.specs.Machine.{same-bits}
-use Rattle.integers.specs.Modulo.{eq-eqZ, ne-eqZ}
+use Rattle.integers.specs.laws.Machine.{same-bits}
+use Rattle.integers.specs.laws.Modulo.{eq-eqZ, ne-eqZ}
 use Rattle.from_values.specs.FromValues.{sameValues}
 use Rattle.from_values.proofs.question.same_values.Statement.{statement}
 use Rattle.from_values.proofs.question.same_values.Tie as tie

@@ -1,52 +1,33 @@
 -- `put_lines` meets its contract. The invariant: where the lines of the rest of the walk are put from here on, all lines are put.
-use mathlib.Core.Path.{_≡_, sym, ap, subst, _∙_}
-use mathlib.Core.Bool.{true, false}
-use mathlib.Core.List.{List, []}
-use Prim.Native.Nat.{ℕ, _+_, _-_, _<_, _≤_}
+use mathlib.Core.Path.{_≡_, sym, ap, _∙_}
+use mathlib.Core.List.{List}
+use Prim.Native.Nat.{ℕ, _+_, _-_}
 use native.Mathlib.Omega.{arith}
 use borrow.Author.Needs.{needs}
-use lib.ListN.{length, length-append}
+use lib.ListN.{length}
 use Rattle.bits.specs.Bits.{bitsAt}
-use Rattle.block.specs.Check.{acceptedAt}
+use Rattle.text.specs.Put.{Put}
+use Rattle.text.specs.laws.Put.{put-none, put-same, put-more, put-length}
+use Rattle.answer.specs.Answer.{accepted, refused}
+use Rattle.search.specs.Search as Search
+use Rattle.search.specs.Search.{foundAnswer}
+use Rattle.search.specs.laws.Search.{found-at, found-inside}
 use Rattle.listing_text.specs.Listing.{line, lines, walk}
-use Rattle.listing_text.specs.Put.{Put}
-use Rattle.listing_text.specs.Puts.{put-none, put-any, put-more, put-length}
-use Rattle.listing_text.specs.Listings.{lines-end, lines-here, lines-next}
+use Rattle.listing_text.specs.laws.Searched.{walk-found, walk-none}
 use Rattle.listing_text.proofs.listing.put_lines.Statement.{statement}
 use Rattle.listing_text.proofs.listing.put_lines.Tie as tie
 
 record Rest (s first : List ℕ) (start : ℕ) (out : List ℕ) (at p : ℕ) : Type 0 where
-  inside : p ≤ length s
-  puts : (t : List ℕ) (end : ℕ) → Put out at (lines s (walk s p)) t end → Put first start (lines s (walk s 0)) t end
+  puts : {t : List ℕ} {end : ℕ} → Put out at (lines s (walk s p)) t end → Put first start (lines s (walk s 0)) t end
 
 module _ {s first : List ℕ} {start : ℕ} {out : List ℕ} {at p : ℕ} (rest : Rest s first start out at p) where
-  -- the room for the rest
-  room : start + length (lines s (walk s 0)) ≤ length first → at + length (lines s (walk s p)) ≤ length out
-  room h =
-      let all = put-any out at (lines s (walk s p)) in
-      let whole = rest .puts _ _ all in
-      omega (arith, whole .end, put-length whole, put-length all)
+  listed : {t : List ℕ} {end : ℕ} (q : ℕ) → Search.find s p ≡ accepted q → Put out at (line q (bitsAt s q)) t end → Rest s first start t end (q + 300)
+  unfolding lines
+  listed q e put = record { puts = λ more. rest .puts (put-same (put-more put more) (ap (lines s) (sym (walk-found s p q e)))) }
 
-  -- the room for one line
-  room-line : start + length (lines s (walk s 0)) ≤ length first → p + 302 ≤ length s → acceptedAt s p ≡ true
-      → at + length (line p (bitsAt s p)) ≤ length out
-  room-line h l e =
-      omega (arith, room h, ap length (lines-here s p l e), length-append (line p (bitsAt s p)) (lines s (walk s (p + 300))))
-
-  listed : {t : List ℕ} {end : ℕ} → p + 302 ≤ length s → acceptedAt s p ≡ true → Put out at (line p (bitsAt s p)) t end → Rest s first start t end (p + 300)
-  listed h e put = record {
-    inside = omega arith;
-    puts = λ t end more. rest .puts t end (subst (λ (x : List ℕ). Put out at x t end) (sym (lines-here s p h e)) (put-more put more));
-  }
-
-  passed : p + 302 ≤ length s → acceptedAt s p ≡ false → Rest s first start out at (p + 1)
-  passed h e = record {
-    inside = omega arith;
-    puts = λ t end more. rest .puts t end (subst (λ (x : List ℕ). Put out at x t end) (sym (lines-next s p h e)) more);
-  }
-
-  done : length s < p + 302 → Put first start (lines s (walk s 0)) out at
-  done h = rest .puts out at (subst (λ (x : List ℕ). Put out at x out at) (sym (lines-end s p h)) (put-none out at))
+  done : (n d : ℕ) → Search.find s p ≡ refused n d → Put first start (lines s (walk s 0)) out at
+  unfolding lines
+  done n d e = rest .puts (put-same (put-none out at) (ap (lines s) (sym (walk-none s p n d e))))
 
 abbrev Inv-loop : tie.InvT-loop
 Inv-loop log out₀ start at₀ p₀ out at p = Rest log out₀ start out at p
@@ -55,36 +36,39 @@ abbrev μ-loop : tie.MeasureT-loop
 μ-loop log out₀ start at₀ p₀ out at p = length log - p
 
 loop-holds : tie.Need-loop-holds Inv-loop μ-loop
-loop-holds c = record { inside = omega arith; puts = λ t end put. put }
+loop-holds c = record { puts = λ put. put }
 
-sub-loop : tie.Need-sub-loop Inv-loop μ-loop
-sub-loop c = omega (arith, c .loop .inv .inside)
+-- ---- a block is found
 
-put-block-line-requires : tie.Need-put-block-line-requires Inv-loop μ-loop
-put-block-line-requires c κs =
-    let l = c .before .before .before .before in
-    let b = l .before .before .before in
-    let e : acceptedAt (b .args .log .now) (l .loop .p) ≡ true = sym (c .before .before .accepted-at .ensures) ∙ c .before .if1 .taken in
-    room-line (l .loop .inv) (b .pre) (omega arith) e
+add-p : tie.Need-add-p Inv-loop μ-loop
+add-p c =
+    let found = c .before .before .before .before .before in
+    let inside = found-inside _ _ (found .before .before .find .ensures) (found .q .given .1) in
+    omega (arith, inside .1)
+
+loop-less : tie.Need-loop-less Inv-loop μ-loop
+loop-less c =
+    let found = c .before .before .before .before .before in
+    let inside = found-inside _ _ (found .before .before .find .ensures) (found .q .given .1) in
+    omega (arith, inside .0, inside .1)
 
 loop-again : tie.Need-loop-again Inv-loop μ-loop
 loop-again c =
     let put = c .before .before in
-    let l = put .before .before .before .before .before in
-    let e : acceptedAt (l .before .before .before .args .log .now) (l .loop .p) ≡ true = sym (put .before .before .before .accepted-at .ensures) ∙ put .before .before .if1 .taken in
-    listed (l .loop .inv) (omega arith) e (put .put-block-line .ensures)
+    let found = put .before .before .before in
+    let f = found .before .before in
+    listed (f .before .loop .inv) _ (found-at _ _ (f .find .ensures) (found .q .given .1)) (put .put-block-line .ensures)
 
-loop-again-2 : tie.Need-loop-again-2 Inv-loop μ-loop
-loop-again-2 c =
-    let l = c .before .before .before in
-    let e : acceptedAt (l .before .before .before .args .log .now) (l .loop .p) ≡ false = sym (c .before .accepted-at .ensures) ∙ c .if1 .left in
-    passed (l .loop .inv) (omega arith) e
+-- ---- none is found
 
-same-length : tie.Need-same-length Inv-loop μ-loop
-same-length c = put-length (done (c .before .loop .inv) (omega arith))
-
-returns : tie.Need-returns Inv-loop μ-loop
-returns c = done (c .before .loop .inv) (omega arith)
+all-put : (c : tie.After-enum-told Inv-loop μ-loop) →
+    (let l = c .before .before .before in
+    let a = l .before .before .before .args in
+    Put (a .out .now) (a .start) (lines (a .log .now) (walk (a .log .now) 0)) (l .loop .out) (l .loop .at))
+unfolding foundAnswer
+all-put c =
+    let f = c .before .before in
+    done (f .before .loop .inv) _ _ (sym (f .find .ensures) ∙ ap foundAnswer (c .enum-told .given .1))
 
 pub put-lines-spec : {M : Type 1} → statement M
 put-lines-spec =
@@ -93,14 +77,12 @@ put-lines-spec =
     Inv-loop
     μ-loop
     loop-holds
-    sub-loop
     (λ c κs. search needs)
-    put-block-line-requires
-    (λ c. omega arith)
-    (λ c. omega arith)
-    loop-again
-    (λ c. omega arith)
-    (λ c. omega arith)
-    loop-again-2
-    same-length
-    returns)
+    (λ c. search needs)
+    (λ c. search needs)
+    (λ c. put-length (all-put c))
+    all-put
+    (λ c κs. search needs)
+    add-p
+    loop-less
+    loop-again)

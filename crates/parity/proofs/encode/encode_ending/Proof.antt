@@ -4,9 +4,9 @@ use Prim.Native.Nat.{ℕ, _+_, _-_, _*_, _/_, _%_, _<_}
 use native.Mathlib.Omega.{arith}
 use borrow.Author.Needs.{needs}
 use Rattle.bits.specs.Bits.{_⊕_, pack}
-use Rattle.bits.specs.Pack.{pack-last, pack-equal}
+use Rattle.bits.specs.laws.Pack.{pack-last, pack-equal}
 use Rattle.parity.specs.Encode.{sourceOf, encode, withFillers, filler23, filler24, encodeEnding}
-use Rattle.parity.specs.OneWord.{encode-same}
+use Rattle.parity.specs.laws.OneWord.{encode-same}
 use Rattle.parity.proofs.encode.Packed.{with-last}
 use Rattle.parity.proofs.encode.encode_ending.Statement.{statement}
 use Rattle.parity.proofs.encode.encode_ending.Tie as tie

@@ -4,7 +4,7 @@ use Prim.Native.Nat.{ℕ, _+_}
 use native.Mathlib.Omega.{arith}
 use borrow.Author.Needs.{needs}
 use Rattle.bits.specs.Bits.{pack, unpack}
-use Rattle.bits.specs.Pack.{pack-lt}
+use Rattle.bits.specs.laws.Pack.{pack-lt}
 use Rattle.parity.specs.Word.{syndrome}
 use Rattle.parity.specs.Encode.{sourceOf, encode}
 use Rattle.parity.proofs.encode.Packed.{whole-word}

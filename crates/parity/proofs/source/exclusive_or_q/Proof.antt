@@ -4,8 +4,8 @@ use Prim.Native.Nat.{ℕ, _-_, _%_}
 use native.Mathlib.Omega.{arith}
 use borrow.Author.Needs.{needs}
 use Rattle.bits.specs.Bits.{_⊕_, inverse, unpack}
-use Rattle.bits.specs.Pack.{pack-same, pack-lowest}
-use Rattle.bits.specs.Parts.{pack-inverse}
+use Rattle.bits.specs.laws.Pack.{pack-same, pack-lowest}
+use Rattle.bits.specs.laws.Parts.{pack-inverse}
 use Rattle.parity.proofs.source.exclusive_or_q.Statement.{statement}
 use Rattle.parity.proofs.source.exclusive_or_q.Tie as tie
 

@@ -5,8 +5,8 @@ use native.Mathlib.Omega.{arith}
 use borrow.Author.Needs.{needs}
 use lib.Pow.{shr-shr}
 use Rattle.bits.specs.Bits.{_⊕_, unpack}
-use Rattle.bits.specs.Pack.{pack-same}
-use Rattle.bits.specs.Xor.{odd-only}
+use Rattle.bits.specs.laws.Pack.{pack-same}
+use Rattle.bits.specs.laws.Xor.{odd-only}
 use Rattle.parity.specs.Word.{sourceBit, sourceBits}
 use Rattle.parity.proofs.source.source_bits.Statement.{statement}
 use Rattle.parity.proofs.source.source_bits.Tie as tie

@@ -16,25 +16,13 @@ returns c =
     let a = c .before .before .args in
     past-end (a .log .now) (a .p + a .j) (omega arith)
 
-sub-if2 : tie.Need-sub-if2
-sub-if2 c = search needs
-
 returns-2 : tie.Need-returns-2
 returns-2 c =
     let a = c .before .before .before .args in
     past-end (a .log .now) (a .p + a .j) (omega arith)
 
-add-wide : tie.Need-add-wide
-add-wide c = search needs
-
-shared-slice-read-wide : tie.Need-shared-slice-read-wide
-shared-slice-read-wide c = omega arith
-
-wide-requires : tie.Need-wide-requires
-wide-requires c κs = search needs
-
 returns-3 : tie.Need-returns-3
 returns-3 c = ap (λ (x : ℕ). x % 2) (c .wide .ensures)
 
 pub bit-at-spec : {M : Type 1} → statement M
-bit-at-spec = tie.close (tie.spec returns sub-if2 returns-2 add-wide shared-slice-read-wide wide-requires returns-3)
+bit-at-spec = tie.close (tie.spec returns (λ c. search needs) returns-2 (λ c. search needs) (λ c. omega arith) (λ c κs. search needs) returns-3)

@@ -1,10 +1,9 @@
 -- `number_at` meets its contract. The invariant: the first i bits are packed.
-use mathlib.Core.Path.{_≡_, refl, sym, ap, ap₂, _∙_}
-use mathlib.Core.List.{List}
-use Prim.Native.Nat.{ℕ, _+_, _-_, _*_, _%_, _≤_}
+use mathlib.Core.Path.{_≡_, refl, ap, _∙_}
+use Prim.Native.Nat.{ℕ, _-_, _%_, _≤_}
 use native.Mathlib.Omega.{arith}
-use Rattle.bits.specs.Bits.{bitsAt, pack}
-use Rattle.bits.specs.Pack.{pack-more, pack-room}
+use Rattle.bits.specs.Bits.{Bits, bitsAt, pack}
+use Rattle.bits.specs.laws.Pack.{pack-step}
 use Rattle.block.specs.Block.{source}
 use Rattle.reader.proofs.numbers.number_at.Statement.{statement}
 use Rattle.reader.proofs.numbers.number_at.Tie as tie
@@ -19,31 +18,30 @@ loop-holds : tie.Need-loop-holds Inv-loop μ-loop
 unfolding pack
 loop-holds c = (omega arith, refl)
 
-abbrev bits : (log : List ℕ) (p at : ℕ) → ℕ → ℕ
-bits log p at = bitsAt (source (bitsAt log p)) at
+-- the bits that are packed
+abbrev bits : tie.At-loop Inv-loop μ-loop → Bits
+bits at = bitsAt (source (bitsAt (at .before .before .args .log .now) (at .before .before .args .p))) (at .before .before .args .at)
 
 mul-n : tie.Need-mul-n Inv-loop μ-loop
 mul-n c =
-    let a = c .before .before .before .args in
-    omega (arith, pack-room 32 (c .before .loop .i) (bits (a .log .now) (a .p) (a .at)) (omega arith))
+    let at = c .before in
+    omega (arith, pack-step 32 (at .loop .i) (bits at) (at .loop .inv .1) refl (omega arith))
+
+bit : (c : tie.After-source-bit Inv-loop μ-loop) → c .source-bit .result ≡ bits (c .before .before) (c .before .before .loop .i) % 2
+bit c = omega (arith, c .source-bit .ensures)
 
 add-n : tie.Need-add-n Inv-loop μ-loop
 add-n c =
     let at = c .before .before in
-    let a = at .before .before .args in
-    omega (arith, pack-room 32 (at .loop .i) (bits (a .log .now) (a .p) (a .at)) (omega arith), c .source-bit .ensures .1)
+    omega (arith, pack-step 32 (at .loop .i) (bits at) (at .loop .inv .1) (bit c) (omega arith))
 
 loop-again : tie.Need-loop-again Inv-loop μ-loop
 loop-again c =
     let at = c .before .before in
-    let a = at .before .before .args in
-    let one : c .source-bit .result ≡ bits (a .log .now) (a .p) (a .at) (at .loop .i) % 2 = omega (arith, c .source-bit .ensures) in
-    (omega arith, ap₂ (λ (x y : ℕ). x * 2 + y) (at .loop .inv .1) one ∙ sym (pack-more (at .loop .i) (bits (a .log .now) (a .p) (a .at))))
+    (omega arith, pack-step 32 (at .loop .i) (bits at) (at .loop .inv .1) (bit c) (omega arith) .0)
 
 returns : tie.Need-returns Inv-loop μ-loop
-returns c =
-    let a = c .before .before .before .args in
-    c .before .loop .inv .1 ∙ ap (λ (k : ℕ). pack k (bits (a .log .now) (a .p) (a .at))) (omega arith)
+returns c = c .before .loop .inv .1 ∙ ap (λ (k : ℕ). pack k (bits (c .before))) (omega arith)
 
 pub number-at-spec : {M : Type 1} → statement M
 number-at-spec =

@@ -6,10 +6,11 @@ use native.Mathlib.Omega.{arith}
 use borrow.Author.Count.{below-none, below-more}
 use lib.ListN.{length, getD, length-set}
 use lib.Seq.{getD-set-same, getD-set-other}
+use Rattle.layout.specs.internal.Table.{numbersAt}
 use Rattle.bits.specs.Bits.{bitsAt, pack}
-use Rattle.bits.specs.Tabulated.{tabulate-list}
-use Rattle.layout.specs.Table.{offset, numbersAt}
-use Rattle.layout.specs.Tables.{offset-more, offset-room}
+use Rattle.finite.specs.laws.Tabulate.{tabulate-list}
+use Rattle.layout.specs.Table.{offset}
+use Rattle.layout.specs.laws.Table.{offset-more, offset-room}
 use Rattle.block.specs.Block.{source}
 use Rattle.reader.proofs.numbers.numbers_at.Statement.{statement}
 use Rattle.reader.proofs.numbers.numbers_at.Tie as tie

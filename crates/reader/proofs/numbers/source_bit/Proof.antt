@@ -2,7 +2,7 @@
 use native.Mathlib.Omega.{arith}
 use borrow.Author.Needs.{needs}
 use Rattle.bits.specs.Bits.{bitsAt}
-use Rattle.block.specs.Source.{source-bit}
+use Rattle.block.specs.laws.Source.{source-bit}
 use Rattle.reader.proofs.numbers.source_bit.Statement.{statement}
 use Rattle.reader.proofs.numbers.source_bit.Tie as tie
 

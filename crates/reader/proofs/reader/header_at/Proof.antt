@@ -7,7 +7,7 @@ use Rattle.block.specs.Block.{source}
 use Rattle.record.specs.Fields.{headerFields}
 use Rattle.record.specs.Record.{headerOf}
 use Rattle.record.specs.Source.{headerIn}
-use Rattle.record.specs.Sound.{header-sound, table-most, table-size, table-decode}
+use Rattle.record.specs.laws.Sound.{header-sound, table-most, table-size, table-decode}
 use Rattle.reader.proofs.reader.header_at.Statement.{statement}
 use Rattle.reader.proofs.reader.header_at.Tie as tie
 

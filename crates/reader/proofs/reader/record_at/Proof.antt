@@ -11,7 +11,7 @@ use Rattle.record.specs.Kind.{kindFor}
 use Rattle.record.specs.Fields.{fieldsOf}
 use Rattle.record.specs.Record.{recordWith}
 use Rattle.record.specs.Source.{headerIn, dataIdIn, idIn, kindIn, recordOf}
-use Rattle.record.specs.Sound.{fields-sound, table-most, table-size, table-decode}
+use Rattle.record.specs.laws.Sound.{fields-sound, table-most, table-size, table-decode}
 use Rattle.record.specs.declared.kind.Kind.{Kind}
 use Rattle.record.specs.declared.record.Header.{Header}
 use Rattle.reader.proofs.reader.record_at.Statement.{statement}

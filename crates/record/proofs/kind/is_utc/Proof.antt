@@ -3,7 +3,7 @@ use mathlib.Core.Path.{_≡_, sym}
 use mathlib.Core.Bool.{true, false}
 use borrow.Author.Tests.{eq-eqb, ne-eqb}
 use lib.Dec.{eqb}
-use Rattle.bits.specs.Tests.{and-false, and-right-true}
+use Rattle.finite.specs.laws.Booleans.{and-false, and-right-true}
 use Rattle.record.specs.Kind.{isUtc}
 use Rattle.record.proofs.kind.is_utc.Statement.{statement}
 use Rattle.record.proofs.kind.is_utc.Tie as tie

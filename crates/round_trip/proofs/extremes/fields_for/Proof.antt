@@ -1,7 +1,7 @@
 -- `fields_for` is safe: the fields of a kind have at most 32 bits.
 use borrow.Author.Needs.{needs}
 use Rattle.record.specs.Fields.{fieldsOf}
-use Rattle.record.specs.Sound.{fields-sound, table-most}
+use Rattle.record.specs.laws.Sound.{fields-sound, table-most}
 use Rattle.round_trip.proofs.extremes.fields_for.Statement.{statement}
 use Rattle.round_trip.proofs.extremes.fields_for.Tie as tie
 

@@ -1,7 +1,7 @@
 -- `header_for` is safe: the header's fields have at most 32 bits.
 use borrow.Author.Needs.{needs}
 use Rattle.record.specs.Fields.{headerFields}
-use Rattle.record.specs.Sound.{header-sound, table-most}
+use Rattle.record.specs.laws.Sound.{header-sound, table-most}
 use Rattle.round_trip.proofs.extremes.header_for.Statement.{statement}
 use Rattle.round_trip.proofs.extremes.header_for.Tie as tie
 

@@ -10,23 +10,23 @@ use lib.Dec.{eqb}
 use lib.ListN.{length, getD, take, drop, replicate, length-append, length-drop, List·getD-append}
 use lib.Seq.{getD-take, getD-drop, length-take-le}
 use Rattle.bits.specs.Bits.{bitsAt}
-use Rattle.bits.specs.Every.{everyBelow}
-use Rattle.bits.specs.Tabulate.{tabulate}
-use Rattle.bits.specs.Tabulated.{tabulate-at, tabulate-length}
-use Rattle.bits.specs.Tests.{everyBelow-true}
+use Rattle.finite.specs.Every.{everyBelow}
+use Rattle.finite.specs.Tabulate.{tabulate}
+use Rattle.finite.specs.laws.Tabulate.{tabulate-at, tabulate-length}
+use Rattle.finite.specs.laws.Every.{everyBelow-true}
 use Rattle.answer.specs.Answer.{accepted, checkedAnswer}
-use Rattle.answer.specs.Lines.{refused-not}
-use Rattle.block.specs.Acceptance.{acceptance}
+use Rattle.answer.specs.laws.Lines.{refused-not}
+use Rattle.block_check.specs.laws.Acceptance.{acceptance}
 use Rattle.block.specs.declared.polarity.Polarity.{Polarity}
 use Rattle.record.specs.declared.record.Record.{Record}
-use Rattle.reader.specs.Reading.{reading}
-use Rattle.reader.specs.Readings.{read-accepted}
-use Rattle.writer.specs.RoundTrip.{rewritten}
-use Rattle.writer.specs.Writing.{bufferAfter}
+use Rattle.reader.specs.Reader as Reader
+use Rattle.reader.specs.laws.Reader.{read-accepted}
+use Rattle.writer.specs.laws.RoundTrip.{rewritten}
+use Rattle.writer.specs.Writer.{bufferAfter}
 use Rattle.round_trip.proofs.log.comes_back.Statement.{statement}
 use Rattle.round_trip.proofs.log.comes_back.Tie as tie
 
-room : (log : List ℕ) (p : ℕ) (r : Record) → reading log p ≡ accepted r → p + 302 ≤ length log
+room : (log : List ℕ) (p : ℕ) (r : Record) → Reader.read log p ≡ accepted r → p + 302 ≤ length log
 room log p r e = acceptance log p .0 (read-accepted log p r e .0) .0 .room
 
 -- the 302 bytes from p on, and a list that begins with them

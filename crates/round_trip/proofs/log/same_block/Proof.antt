@@ -7,7 +7,7 @@ use borrow.Author.Count.{below-none, below-more}
 use borrow.Author.Tests.{eq-eqb, ne-eqb}
 use lib.Dec.{eqb}
 use lib.ListN.{getD}
-use Rattle.bits.specs.Tests.{everyBelow-true, everyBelow-false}
+use Rattle.finite.specs.laws.Every.{everyBelow-true, everyBelow-false}
 use Rattle.round_trip.proofs.log.same_block.Statement.{statement}
 use Rattle.round_trip.proofs.log.same_block.Tie as tie
 

@@ -9,18 +9,6 @@ use Rattle.search.specs.Search.{blockPart}
 use Rattle.search.proofs.part.block_at.Statement.{statement}
 use Rattle.search.proofs.part.block_at.Tie as tie
 
-add-end : tie.Need-add-end
-add-end c = search needs
-
-sub-result : tie.Need-sub-result
-sub-result c = search needs
-
-part-result-start : tie.Need-part-result-start
-part-result-start c = search needs
-
-part-result-end : tie.Need-part-result-end
-part-result-end c = search needs
-
 returns : tie.Need-returns
 unfolding blockPart
 returns c =
@@ -29,4 +17,4 @@ returns c =
     (ap (λ (n : ℕ). take n (drop (a .q) (a .log .now))) size, ap (λ (offset : ℕ). (a .log .ptr .0, offset)) (add-comm (a .q) (a .log .ptr .1)))
 
 pub block-at-spec : {M : Type 1} → statement M
-block-at-spec = tie.close (tie.spec add-end sub-result part-result-start part-result-end returns)
+block-at-spec = tie.close (tie.spec (λ c. search needs) (λ c. search needs) (λ c. search needs) (λ c. search needs) returns)

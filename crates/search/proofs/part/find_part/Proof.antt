@@ -6,34 +6,14 @@ use borrow.Author.Needs.{needs}
 use denote.Ref.{now}
 use Rattle.answer.specs.Answer.{Answer}
 use Rattle.search.specs.Search.{foundAnswer, partOf, partPlace}
-use Rattle.search.specs.Searches.{found-room}
+use Rattle.search.specs.laws.Search.{found-inside}
 use Rattle.search.proofs.part.find_part.Statement.{statement}
 use Rattle.search.proofs.part.find_part.Tie as tie
 
-find-requires : tie.Need-find-requires
-find-requires c κs = search needs
-
-enum-known-q : tie.Need-enum-known-q
-enum-known-q c = search needs
-
 block-at-requires : tie.Need-block-at-requires
-unfolding foundAnswer
 block-at-requires c κs =
-    let f = c .before .before .before in
-    let a = f .before .before .args in
-    found-room (a .log .now) (a .p) (c .before .q .given .0 .0) (sym (f .find .ensures) ∙ ap foundAnswer (c .before .q .given .1))
-
-enum-told : tie.Need-enum-told
-enum-told c = search needs
-
-sub-result : tie.Need-sub-result
-sub-result c = search needs
-
-part-result-start : tie.Need-part-result-start
-part-result-start c = search needs
-
-part-result-end : tie.Need-part-result-end
-part-result-end c = search needs
+    let found = c .before in
+    found-inside _ _ (found .before .before .find .ensures) (found .q .given .1) .1
 
 returns : tie.Need-returns
 unfolding foundAnswer partOf partPlace
@@ -59,12 +39,12 @@ pub find-part-spec : {M : Type 1} → statement M
 find-part-spec =
     tie.close
     (tie.spec
-    find-requires
-    enum-known-q
+    (λ c κs. search needs)
+    (λ c. search needs)
     block-at-requires
-    enum-told
-    sub-result
-    part-result-start
-    part-result-end
+    (λ c. search needs)
+    (λ c. search needs)
+    (λ c. search needs)
+    (λ c. search needs)
     returns
     returns-2)

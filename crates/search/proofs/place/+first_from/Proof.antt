@@ -7,11 +7,11 @@ use borrow.Fn.Kinds.{In}
 use borrow.Fn.PlainCycle.{Measures, is, falls, and}
 use lib.ListN.{length}
 use Rattle.search.specs.Search.{firstPlace}
-use Rattle.search.specs.Searches.{past-end, here, next}
+use Rattle.search.specs.laws.Search.{past-end, here, next}
 use Rattle.search.proofs.place.first_from.Reads as first-from
 use Rattle.search.proofs.place.first_from.Kinds as first-from-kinds
 use Rattle.search.proofs.place.+first_from.Lts-first_from as first-from-lts
-use Rattle.block.proofs.accepted_at.Reads as accepted-at-reads
+use Rattle.quick.proofs.accepted_at.Reads as accepted-at-reads
 use Rattle.search.proofs.place.+first_from.{statement}
 use Rattle.search.proofs.place.+first_from.Tie.{close}
 

@@ -9,9 +9,9 @@ use mir.Syntax.{w32, w64}
 use mir.Val.{Fits, toZ, ofZ}
 use mir.ValLaws.{toZ-ofZ}
 use Rattle.integers.specs.Whole.{modulo}
-use Rattle.integers.specs.Modulo.{modulo-lt}
-use Rattle.integers.specs.Machine.{Small, sum, literal, stored, fits-of, cast-of}
-use Rattle.utc.specs.Days.{quotient-mag, rest-small, rest-below, rest-from}
+use Rattle.integers.specs.laws.Modulo.{modulo-lt}
+use Rattle.integers.specs.laws.Machine.{Small, sum, literal, stored, fits-of, cast-of}
+use Rattle.utc.specs.laws.Days.{quotient-mag, rest-small, rest-below, rest-from}
 use Rattle.utc.proofs.day.modulo_day.Statement.{statement}
 use Rattle.utc.proofs.day.modulo_day.Tie as tie
 

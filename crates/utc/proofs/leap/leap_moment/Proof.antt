@@ -6,10 +6,10 @@ use lib.Dec.{lit<}
 use lib.IntN.{pos, _+ℤ_, _*ℤ_}
 use mir.Syntax.{w64}
 use mir.Val.{toZ, ofZ}
-use Rattle.integers.specs.Machine.{Small, natural, literal, sum, product, stored, fits-of}
+use Rattle.integers.specs.laws.Machine.{Small, natural, literal, sum, product, stored, fits-of}
 use Rattle.record.specs.declared.record.UtcPage.{UtcPage}
 use Rattle.utc.specs.Leap.{leapWeek, leapMoment}
-use Rattle.utc.specs.LeapWeeks.{difference-size}
+use Rattle.utc.specs.laws.LeapWeeks.{difference-size}
 use Rattle.utc.proofs.leap.leap_moment.Statement.{statement}
 use Rattle.utc.proofs.leap.leap_moment.Tie as tie
 

@@ -7,8 +7,8 @@ use lib.Dec.{lit<}
 use lib.IntN.{pos, _-ℤ_}
 use mir.Syntax.{w64}
 use mir.Val.{toZ}
-use Rattle.integers.specs.Machine.{Small, natural, literal, difference, stored, fits-of}
-use Rattle.layout.specs.Signs.{signed-low, signed-less}
+use Rattle.integers.specs.laws.Machine.{Small, natural, literal, difference, stored, fits-of}
+use Rattle.layout.specs.laws.Signs.{signed-low, signed-less}
 use Rattle.utc.proofs.leap.signed_byte.Statement.{statement}
 use Rattle.utc.proofs.leap.signed_byte.Tie as tie
 

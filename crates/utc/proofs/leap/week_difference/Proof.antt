@@ -7,7 +7,7 @@ use mir.Syntax.{w64}
 use mir.ValLaws.{toZ-ofZ}
 use Rattle.layout.specs.Field.{signed}
 use Rattle.utc.specs.Leap.{weekDifference}
-use Rattle.utc.specs.LeapWeeks.{wraps-back}
+use Rattle.utc.specs.laws.LeapWeeks.{wraps-back}
 use Rattle.utc.proofs.leap.week_difference.Statement.{statement}
 use Rattle.utc.proofs.leap.week_difference.Tie as tie
 

@@ -9,7 +9,7 @@ use mir.Syntax.{w32, w64}
 use mir.Val.{SFits, toZ, ofZ}
 use mir.ValLaws.{toZ-ofZ}
 use Rattle.integers.specs.Whole.{modulo}
-use Rattle.integers.specs.Machine.{Small, of-width, difference, stored, fits-of}
+use Rattle.integers.specs.laws.Machine.{Small, of-width, difference, stored, fits-of}
 use Rattle.record.specs.declared.record.UtcPage.{UtcPage}
 use Rattle.utc.specs.Time.{gpsTime, offsetAt, secondOfDay}
 use Rattle.utc.proofs.time.second_of_day.Statement.{statement}

@@ -3,7 +3,7 @@ use lib.Dec.{lit<}
 use native.Mathlib.Omega.{arith}
 use mir.Syntax.{w64}
 use borrow.Author.Needs.{needs}
-use Rattle.integers.specs.Machine.{natural, fits-of}
+use Rattle.integers.specs.laws.Machine.{natural, fits-of}
 use Rattle.values.proofs.numbers.natural.Statement.{statement}
 use Rattle.values.proofs.numbers.natural.Tie as tie
 

@@ -3,7 +3,7 @@ use lib.Dec.{lit<}
 use mir.Syntax.{w32, w64}
 use mir.Val.{toZ, ofZ}
 use mir.ValLaws.{toZ-ofZ}
-use Rattle.integers.specs.Machine.{Small, of-width, stored, fits-of}
+use Rattle.integers.specs.laws.Machine.{Small, of-width, stored, fits-of}
 use Rattle.values.proofs.numbers.whole.Statement.{statement}
 use Rattle.values.proofs.numbers.whole.Tie as tie
 

@@ -2,7 +2,7 @@
 use lib.Dec.{lit<}
 use lib.IntN.{pos}
 use mathlib.Core.List.{[], _∷_}
-use Rattle.integers.specs.Machine.{as-held}
+use Rattle.integers.specs.laws.Machine.{as-held}
 use Rattle.values.specs.Values.{padded, valuesOfHeader}
 use Rattle.values.proofs.to_values.header_values.Statement.{statement}
 use Rattle.values.proofs.to_values.header_values.Tie as tie

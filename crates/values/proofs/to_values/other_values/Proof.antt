@@ -1,7 +1,7 @@
 -- `other_values` meets its contract: each value is what its call ensures (ck is after call k).
 use lib.Dec.{lit<}
 use lib.ListN.{set}
-use Rattle.integers.specs.Machine.{as-held}
+use Rattle.integers.specs.laws.Machine.{as-held}
 use Rattle.values.specs.Values.{padded, valuesOfHeader, valuesOfOther}
 use Rattle.values.proofs.to_values.other_values.Statement.{statement}
 use Rattle.values.proofs.to_values.other_values.Tie as tie

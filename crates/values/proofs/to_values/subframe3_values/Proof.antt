@@ -2,8 +2,8 @@
 -- be, of the header first).
 use lib.Dec.{lit<}
 use lib.ListN.{set}
-use Rattle.integers.specs.Machine.{as-held}
-use Rattle.values.specs.Machine.{whole-value}
+use Rattle.integers.specs.laws.Machine.{as-held}
+use Rattle.values.specs.laws.Machine.{whole-value}
 use Rattle.values.specs.Values.{padded, valuesOfHeader, valuesOfSubframe3}
 use Rattle.values.proofs.to_values.subframe3_values.Statement.{statement}
 use Rattle.values.proofs.to_values.subframe3_values.Tie as tie

@@ -1,17 +1,19 @@
 -- `put_block` meets its contract. The invariant: the first k words are written after the start pair, and `window` ends with the last two bits
 -- of window k.
-use mathlib.Core.Path.{_≡_, refl, sym, ap, subst, _∙_}
+use mathlib.Core.Path.{_≡_, refl, sym, ap, _∙_}
 use Prim.Native.Nat.{ℕ, zero, suc, _+_, _-_, _*_, _/_, _%_, _^_, _<_, _≤_}
-use native.Mathlib.Nat.{mod-eq-of-lt, zero-add}
+use native.Mathlib.Nat.{mod-eq-of-lt}
 use native.Mathlib.Numerals.{add-one}
 use native.Mathlib.Omega.{arith}
 use lib.Dec.{lit<}
+use Rattle.finite.specs.Tabulate.{tabulate}
+use Rattle.finite.specs.laws.Tabulate.{tabulate-same}
+use Rattle.text.specs.Put.{Put}
+use Rattle.text.specs.laws.Put.{put-none, put-same, put-length, put-run}
 use Rattle.bits.specs.Bits.{Bits, bitsAt, pack, unpack}
-use Rattle.bits.specs.Pack.{pack-last, unpack-pack}
-use Rattle.writer.specs.Put.{Put}
-use Rattle.writer.specs.Puts.{put-none, put-more}
+use Rattle.bits.specs.laws.Pack.{pack-last, unpack-pack}
 use Rattle.writer.specs.Written.{wordAfter, windowFrom, blockFrom}
-use Rattle.writer.specs.Words.{window-lt, word-bit}
+use Rattle.writer.specs.laws.Words.{window-lt, word-bit}
 use Rattle.writer.proofs.words.put_block.Statement.{statement}
 use Rattle.writer.proofs.words.put_block.Tie as tie
 
@@ -66,72 +68,58 @@ module _ (m : Bits) (bits : (i : ℕ) → m i < 2) (a : ℕ) (start : a < 2) (k 
 -- ---- the function
 
 abbrev Inv-loop : tie.InvT-loop
-Inv-loop buf₀ message a window₀ k₀ buf window k =
+Inv-loop buf₀ message a window₀ next₀ k₀ buf window next k =
     (k ≤ 10) × (window / 2 % 2 ≡ windowFrom (bitsAt message 0) a k 30) × (window % 2 ≡ windowFrom (bitsAt message 0) a k 31)
-    × Put buf₀ 2 (30 * k) (λ j. blockFrom (bitsAt message 0) a (2 + j)) buf
+    × Put buf₀ next₀ (tabulate (30 * k) (λ j. blockFrom (bitsAt message 0) a (2 + j))) buf next
 
 abbrev μ-loop : tie.MeasureT-loop
-μ-loop buf₀ message a window₀ k₀ buf window k = 10 - k
-
-put-number-requires : tie.Need-put-number-requires Inv-loop μ-loop
-put-number-requires c κs = (omega (arith, c .before .before .pre .0), omega arith)
+μ-loop buf₀ message a window₀ next₀ k₀ buf window next k = 10 - k
 
 loop-holds : tie.Need-loop-holds Inv-loop μ-loop
-unfolding windowFrom
+unfolding windowFrom tabulate
 loop-holds c =
     let s = c .before .before .before .before .before in
-    let start = three (s .args .a) (s .pre .1 .0) in
-    (omega arith, start .0, start .1, put-none _ _ _)
+    let start = three (s .args .a) (s .pre .0) in
+    (omega arith, start .0, start .1, put-none _ _)
 
 word-after-requires : tie.Need-word-after-requires Inv-loop μ-loop
-word-after-requires c κs = (omega arith, (omega arith, c .before .before .before .before .before .before .before .pre .1 .1))
-
-put-number-requires-2 : tie.Need-put-number-requires-2 Inv-loop μ-loop
-put-number-requires-2 c κs =
-    let l = c .before .before .before .loop in
-    let s = c .before .before .before .before .before .before .before .before .before in
-    let first = c .before .before .before .before .before .before .put-number .ensures in
-    (omega (arith, l .inv .3 .same-length, first .same-length, s .pre .0), omega arith)
+word-after-requires c κs = (omega arith, (omega arith, c .before .before .before .before .before .before .before .pre .1))
 
 loop-again : tie.Need-loop-again Inv-loop μ-loop
 loop-again c =
-    let l = c .before .before .before .before .before .before .loop in
-    let s = c .before .before .before .before .before .before .before .before .before .before .before .before in
+    let put = c .before .before in
+    let word = put .before .before in
+    let at = word .before .before in
+    let l = at .loop in
+    let s = at .before .before .before .before .before .before in
     let m = bitsAt (s .args .message .now) 0 in
-    let bits : (i : ℕ) → m i < 2 = s .pre .1 .1 in
-    let word = c .before .before .before .before .word-after in
-    let next = turn m bits (s .args .a) (s .pre .1 .0) (l .k) (l .window) (word .result) (l .inv .1) (l .inv .2) (word .ensures) in
-    let place : 30 * l .k + 2 ≡ 2 + 30 * l .k = omega arith in
+    let next = turn m (s .pre .1) (s .args .a) (s .pre .0) (l .k) (l .window) (word .word-after .result) (l .inv .1) (l .inv .2) (word .word-after .ensures) in
     let size : 30 * l .k + 30 ≡ 30 * (l .k + 1) = omega arith in
-    let block : Bits = λ j. blockFrom m (s .args .a) (2 + j) in
-    let start = c .before .before .before .before .before .before .before .before .before .put-number .last .0 in
-    let buf = c .before .before .put-number2 .last .0 in
-    let one : Put (l .buf) (2 + 30 * l .k) 30 (unpack 30 (word .result)) buf =
-    subst (λ (x : ℕ). Put (l .buf) x 30 (unpack 30 (word .result)) buf) place (c .before .before .put-number2 .ensures) in (
+    let block : Bits = λ j. blockFrom m (s .args .a) (2 + j) in (
       omega arith,
       next .0,
       next .1,
-      subst (λ (x : ℕ). Put start 2 x block buf) size
-          (put-more (l .inv .3) one (next .2)),
+      put-same (put-run (30 * l .k) 30 block (unpack 30 (word .word-after .result)) (l .inv .3) (put .put-bits2 .ensures) (next .2))
+          (ap (λ (n : ℕ). tabulate n block) size),
     )
 
 same-length : tie.Need-same-length Inv-loop μ-loop
-same-length c = c .before .loop .inv .3 .same-length ∙ c .before .before .before .before .put-number .ensures .same-length
+same-length c = put-length (c .before .loop .inv .3) ∙ put-length (c .before .before .before .before .put-bits .ensures)
 
 returns : tie.Need-returns Inv-loop μ-loop
 returns c =
-    let s = c .before .before .before .before .before .before .before in
     let l = c .before .loop in
+    let first = c .before .before .before .before in
+    let s = first .before .before .before in
     let m = bitsAt (s .args .message .now) 0 in
+    let a = s .args .a in
     let all : 30 * l .k ≡ 300 = omega arith in
-    let first = c .before .before .before .before .put-number in
-    let block : Bits = λ j. blockFrom m (s .args .a) (2 + j) in
-    let pair : Put (s .args .buf .now) 0 2 (blockFrom m (s .args .a)) (first .last .0) =
-    put-more (put-none (s .args .buf .now) 0 (blockFrom m (s .args .a))) (first .ensures) (λ j h. start-pair m (s .args .a) (s .pre .1 .0) j h ∙ ap (blockFrom m (s .args .a)) (sym (zero-add j))) in
-    let words : Put (first .last .0) 2 300 block (l .buf) = subst (λ (x : ℕ). Put (first .last .0) 2 x block (l .buf)) all (l .inv .3) in
-    put-more pair words (λ j h. refl)
+    let block : Bits = λ j. blockFrom m a (2 + j) in
+    put-run 2 300 (blockFrom m a) block
+    (put-same (first .put-bits .ensures) (tabulate-same 2 (unpack 2 (a * 3)) (blockFrom m a) (start-pair m a (s .pre .0))))
+    (put-same (l .inv .3) (ap (λ (n : ℕ). tabulate n block) all)) (λ j h. refl)
 
 pub put-block-spec : {M : Type 1} → statement M
 put-block-spec =
     tie.close
-    (tie.spec Inv-loop μ-loop (λ c. omega arith) put-number-requires loop-holds (λ c. omega arith) word-after-requires (λ c. omega arith) (λ c. omega arith) put-number-requires-2 (λ c. omega arith) (λ c. omega arith) loop-again same-length returns)
+    (tie.spec Inv-loop μ-loop (λ c. omega arith) (λ c κs. omega arith) loop-holds (λ c. omega arith) word-after-requires (λ c κs. omega arith) (λ c. omega arith) (λ c. omega arith) loop-again same-length returns)

@@ -1,27 +1,31 @@
 -- `set` meets its contract: number 13, then what is held of the satellite decides.
-use mathlib.Core.Path.{sym, _∙_}
+use mathlib.Core.Path.{sym, ap, _∙_}
 use Prim.Native.Nat.{_≤_}
 use native.Mathlib.Omega.{arith}
 use borrow.Author.Tests.{not-true, not-false}
+use Rattle.answer.specs.Answer.{refusalAnswer}
+use Rattle.orbit_set.specs.Set.{givenSetAnswer}
+use Rattle.satellite.specs.Satellite.{emptySatellite}
+use Rattle.satellite.specs.laws.Numbers.{bounds}
 use Rattle.collector.specs.Held.{satelliteOf, heldSubframe1, heldSubframe2, heldSubframe3}
-use Rattle.collector.specs.Satellites.{bounds}
-use Rattle.collector.specs.Ways.{set-13, set-held}
+use Rattle.collector.specs.laws.Ways.{set-13, set-held}
 use Rattle.collector.proofs.held.Collector.set.Statement.{statement}
 use Rattle.collector.proofs.held.Collector.set.Tie as tie
 
 returns : tie.Need-returns
+unfolding givenSetAnswer
 returns c =
     let asked = c .before .before in
-    c .refused .ensures ∙ sym (set-13 (asked .before .args .t1) (asked .before .args .satellite) (sym (asked .is-satellite .ensures) ∙ not-true _ (c .before .if1 .taken)))
+    ap refusalAnswer (c .refusal-by .ensures) ∙ sym (set-13 (asked .before .args .t1) (asked .before .args .satellite) (sym (asked .is-satellite .ensures) ∙ not-true _ (c .before .if1 .taken)))
 
 inside : (c : tie.Else1) → (1 ≤ c .before .before .args .satellite) × (c .before .before .args .satellite ≤ 32)
 inside c = bounds _ (sym (c .before .is-satellite .ensures) ∙ not-false _ (c .if1 .left))
 
 returns-2 : tie.Need-returns-2
-unfolding heldSubframe1 heldSubframe2 heldSubframe3 satelliteOf
+unfolding heldSubframe1 heldSubframe2 heldSubframe3 satelliteOf emptySatellite
 returns-2 c =
-    let asked = c .before .before .before in
-    c .set-in .ensures ∙ sym (set-held (asked .before .args .t1) (asked .before .args .satellite) (sym (asked .is-satellite .ensures) ∙ not-false _ (c .before .before .if1 .left)))
+    let asked = c .before .before .before .before in
+    c .set-in .ensures ∙ sym (set-held (asked .before .args .t1) (asked .before .args .satellite) (sym (asked .is-satellite .ensures) ∙ not-false _ (c .before .before .before .if1 .left)))
 
 pub set-spec : {M : Type 1} → statement M
 set-spec =

@@ -1,0 +1,55 @@
+-- Laws. What a feed and the questions answer, line by line of the table.
+use mathlib.Core.Path.{_≡_, ap}
+use mathlib.Core.Bool.{Bool, true, false, not}
+use mathlib.Core.List.{List}
+use Prim.Native.Nat.{ℕ}
+use Rattle.reader.specs.Reader as Reader
+use Rattle.answer.specs.Answer.{accepted, refused, refuseIf, whenHeld}
+use Rattle.record.specs.declared.record.Record.{Record}
+use Rattle.orbit_set.specs.Set.{setIn}
+use Rattle.satellite.specs.Numbers.{isSatellite}
+use Rattle.collector.specs.Held.{heldSubframe1, heldSubframe2, heldSubframe3, heldAlmanac}
+use Rattle.collector.specs.Feed as Feed
+use Rattle.collector.specs.Feed.{kept, collectorAfter, fed}
+use Rattle.collector.specs.Questions as Questions
+use Rattle.collector.specs.declared.held.Collector.{Collector}
+
+-- ---- a feed
+
+module _ (s : List ℕ) (p n : ℕ) where
+  pub feed-13 : isSatellite n ≡ false → Feed.feed s p n ≡ refused 13 n
+  unfolding Feed.feed refuseIf
+  feed-13 h = ap (λ (t : Bool). refuseIf (not t) 13 n (Reader.read s p)) h
+
+  pub feed-reads : isSatellite n ≡ true → Feed.feed s p n ≡ Reader.read s p
+  unfolding Feed.feed refuseIf
+  feed-reads h = ap (λ (t : Bool). refuseIf (not t) 13 n (Reader.read s p)) h
+
+  module _ (c : Collector) where
+    -- a refusal leaves the collector as it was
+    pub fed-refused : (m d : ℕ) → Feed.feed s p n ≡ refused m d → fed c s p n ≡ c
+    unfolding fed collectorAfter
+    fed-refused m d e = rw e
+
+    pub fed-accepted : (r : Record) → Feed.feed s p n ≡ accepted r → fed c s p n ≡ kept c n r
+    unfolding fed collectorAfter
+    fed-accepted r e = rw e
+
+-- ---- the questions
+
+module _ (c : Collector) (n : ℕ) where
+  pub set-13 : isSatellite n ≡ false → Questions.set c n ≡ refused 13 n
+  unfolding Questions.set refuseIf
+  set-13 h = rw h
+
+  pub set-held : isSatellite n ≡ true → Questions.set c n ≡ setIn (heldSubframe1 c n) (heldSubframe2 c n) (heldSubframe3 c n)
+  unfolding Questions.set refuseIf
+  set-held h = rw h
+
+  pub almanac-13 : isSatellite n ≡ false → Questions.almanac c n ≡ refused 13 n
+  unfolding Questions.almanac refuseIf
+  almanac-13 h = rw h
+
+  pub almanac-held : isSatellite n ≡ true → Questions.almanac c n ≡ whenHeld (heldAlmanac c n) 20 0 accepted
+  unfolding Questions.almanac refuseIf
+  almanac-held h = rw h

@@ -1,0 +1,4 @@
+-- Laws about the definitions of this crate.
+pub mod Values
+pub mod Patterns
+pub mod Products

@@ -1,3 +1,0 @@
--- The files of this folder: the definitions, then the laws.
-pub mod Told
-pub mod ReadAgain

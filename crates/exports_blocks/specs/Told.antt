@@ -1,0 +1,25 @@
+-- Definitions. What the search and the reader answer, as plain numbers: number and detail, then the value, 0 where the call is refused.
+use mathlib.Core.Bool.{Bool, true, false}
+use Prim.Native.Nat.{ℕ}
+use Rattle.answer.specs.Answer.{Answer, fromValue}
+use Rattle.block.specs.declared.polarity.Polarity.{Polarity}
+use Rattle.block.specs.declared.polarity.Polarity.the-variants.{Upright, Inverted}
+use Rattle.record.specs.declared.record.Record.{Record}
+use Rattle.values.specs.Values.{kindNumber}
+use Rattle.told.specs.Told.{told}
+use Rattle.exports_blocks.specs.declared.blocks.LnavFound.{LnavFound}
+use Rattle.exports_blocks.specs.declared.blocks.LnavReading.{LnavReading}
+
+unfoldable pub isInverted : Polarity → Bool
+isInverted Upright = false
+isInverted Inverted = true
+
+unfoldable pub polarityWith : Bool → Polarity
+polarityWith false = Upright
+polarityWith true = Inverted
+
+unfoldable pub foundTold : Answer ℕ → LnavFound
+foundTold a = record { answer = told a; place = fromValue 0 (λ q. q) a }
+
+unfoldable pub readingTold : Answer Record → LnavReading
+readingTold a = record { answer = told a; kind = fromValue 0 kindNumber a }

@@ -1,0 +1,6 @@
+// A record from the numbers that stand in its fields.
+mod kinds;
+mod signed;
+
+pub use kinds::header_from;
+pub use kinds::record_from;

@@ -1,0 +1,4 @@
+-- Laws about the definitions of this crate.
+pub mod Walk
+pub mod Listing
+pub mod Searched

@@ -1,0 +1,2 @@
+-- The laws that several proofs cite.
+pub mod Table

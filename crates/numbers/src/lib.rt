@@ -1,0 +1,6 @@
+// The numbers that stand in a record's fields.
+mod kinds;
+mod unsigned;
+
+pub use kinds::field_numbers;
+pub use kinds::header_numbers;

@@ -1,0 +1,4 @@
+-- The files of this folder: definitions; laws about them.
+pub mod Numbers
+pub mod Satellite
+pub mod laws

@@ -1,2 +1,0 @@
--- The laws that the proofs of `message` cite.
-pub mod Table
