@@ -12,7 +12,7 @@ use lib.Seq.{getD-set-other}
 use Rattle.answer.specs.Answer.{Answer, accepted, refused, value}
 use Rattle.answer.specs.laws.Lines.{line-accepts}
 use Rattle.record.specs.laws.Taken.{taken}
-use Rattle.record.specs.AsKind.{byKind, asAlmanac, asUtc}
+use Rattle.record.specs.AsKind.{byKind, asSubframe1, asSubframe2, asSubframe3, asAlmanac, asUtc}
 use Rattle.record.specs.Writable.{ofItsKind}
 use Rattle.record.specs.declared.record.AlmanacPage.{AlmanacPage}
 use Rattle.record.specs.declared.record.OtherPage.{OtherPage}
@@ -30,7 +30,7 @@ use Rattle.collector.specs.Feed.{almanacAfter, utcAfter, kept, feed, col
 use Rattle.collector.specs.History.{Feed, after, brought, broughtFor, withId, almanacFor, utcFrom}
 use Rattle.collector.specs.laws.Ways.{fed-accepted}
 use Rattle.collector.specs.laws.Entries.{either-way, entry-after}
-use Rattle.collector.specs.laws.Kept.{kept-other}
+use Rattle.collector.specs.laws.Kept.{kept-page}
 use Rattle.collector.specs.declared.held.AlmanacEntry.{AlmanacEntry}
 use Rattle.collector.specs.declared.held.Collector.{Collector}
 use Rattle.collector.specs.declared.held.HeldAlmanac.the-variants as HA
@@ -147,4 +147,5 @@ module _ (c : Collector) (f : Feed) where
 
 -- other pages are accepted and not kept
 pub other-fed : (c : Collector) (s : List ℕ) (p n : ℕ) (page : OtherPage) → feed s p n ≡ accepted (R.Other page) → fed c s p n ≡ c
-other-fed c s p n page e = fed-accepted s p n c (R.Other page) e ∙ kept-other c n page
+unfolding almanacAfter utcAfter asSubframe1 asSubframe2 asSubframe3 asAlmanac asUtc byKind Option·elim
+other-fed c s p n page e = fed-accepted s p n c (R.Other page) e ∙ kept-page c n (R.Other page) refl refl refl
