@@ -1,4 +1,4 @@
--- Definitions. The lines of the parity table as masks of a packed window.
+-- Definitions. The lines of the parity table as masks of a packed window; only private contracts cite them.
 use Prim.Native.Nat.{ℕ}
 use Rattle.bits.specs.Bits.{unitAt, pack}
 use Rattle.parity.specs.Table.{line}

@@ -1,4 +1,4 @@
--- Definitions. A line of text that writes a window.
+-- Definitions. A line of text that writes a window; only private contracts cite them.
 use mathlib.Core.Bool.{Bool, _&&_}
 use mathlib.Core.List.{List}
 use Prim.Native.Nat.{ℕ, _/_}
