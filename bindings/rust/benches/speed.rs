@@ -52,7 +52,7 @@ fn random_bits(length: usize) -> Vec<u8> {
 fn recording() -> Vec<u8> {
     let path = concat!(
         env!("CARGO_MANIFEST_DIR"),
-        "/../../crates/records/data/ublox-m8t-sv03.log"
+        "/../../crates/lnav/data/ublox-m8t-sv03.log"
     );
     std::fs::read(path).expect("the recording is in the repository")
 }

@@ -2,13 +2,12 @@
 ghost use mathlib.Core.Path.{_≡_};
 ghost use lib.IntN.{natAbs};
 
-// The absolute value. That of -2^31 is no i32.
-pub fn absolute(z: i32) -> u64
+// The absolute value. That of -2^63 is no i64, so 1 is added after the sign is turned.
+pub fn absolute(z: i64) -> u64
     ensures { λ r. ⌜ r ≡ natAbs z ⌝ }
 {
-    let wide = z as i64;
-    if wide < 0 {
-        return (0 - wide) as u64;
+    if z < 0 {
+        return (0 - (z + 1)) as u64 + 1;
     }
-    wide as u64
+    z as u64
 }

@@ -13,7 +13,7 @@ fn file(path: &str) -> Vec<u8> {
 // The recording has 40 blocks, 300 apart, of satellite 5: a set of issue 47 from the fourth on, one of issue 48 from the ninth on.
 #[test]
 fn recording() {
-    let log = file("logs/data/recording.log");
+    let log = file("lnav/data/ublox-2008-sv05.log");
     let mut history = History::new(&log);
     for fed in 1..=40usize {
         let place = 300 * (fed - 1);
@@ -39,22 +39,32 @@ fn recording() {
     assert!(listing.ends_with("\n11700\t4\t18034\tU\n"));
 }
 
-// The fields of a record as ` name=value` each, in their order, out of its debug text.
-fn named_values(record: &Record) -> String {
+// The fields of a record as `name number` each, in their order, out of its debug text.
+fn named_values(record: &Record) -> Vec<String> {
     let text = format!("{record:?}").replace(['{', '}', '(', ')', ','], " ");
     let words: Vec<&str> = text.split_whitespace().collect();
     let pairs = words
         .windows(2)
         .filter(|pair| pair[0].ends_with(':') && pair[1].parse::<i64>().is_ok());
     pairs
-        .map(|pair| format!(" {}={}", pair[0].trim_end_matches(':'), pair[1]))
+        .map(|pair| format!("{} {}", pair[0].trim_end_matches(':'), pair[1]))
         .collect()
 }
 
-// Every field by its name: the records of the recordings are those that the program `records` is held to, most of them another decoder's.
+// The first two words of each line that `lnav` is held to for the commands `read` of records.txt.
+fn expected_fields(commands: &str) -> Vec<String> {
+    let heading = commands.lines().find(|line| line.starts_with('#')).unwrap();
+    let output = String::from_utf8(file("lnav/stdout")).unwrap();
+    let lines = output.lines().skip_while(|line| *line != heading);
+    lines
+        .filter(|line| !line.starts_with('#'))
+        .map(|line| line.split(' ').take(2).collect::<Vec<_>>().join(" "))
+        .collect()
+}
+
+// Every field by its name: the records of the recordings are those that the program `lnav` is held to, most of them another decoder's.
 #[test]
 fn named_fields() {
-    let expected = String::from_utf8(file("records/stdout")).unwrap();
     let names = [
         "subframe1",
         "subframe2",
@@ -63,26 +73,31 @@ fn named_fields() {
         "utc",
         "other",
     ];
-    let mut log = Vec::new();
+    let commands = String::from_utf8(file("lnav/data/records.txt")).unwrap();
+    let expected = expected_fields(&commands);
+    let mut at = 0;
     let mut kinds = [0; 6];
-    for line in expected.lines() {
-        let Some((place, rest)) = line.split_once(' ') else {
-            log = file(&format!("records/data/{line}"));
-            continue;
-        };
-        let (kind, fields) = rest.split_at(rest.find(' ').unwrap());
-        let record = lnav::read(&log, place.parse().unwrap()).unwrap();
-        assert_eq!(names[usize::from(record.kind()) - 1], kind);
-        assert_eq!(named_values(&record), fields);
+    for command in commands.lines().filter(|line| line.starts_with("read ")) {
+        let words: Vec<&str> = command.split(' ').collect();
+        let log = file(&format!("lnav/data/{}", words[1]));
+        let inverse: Vec<u8> = log.iter().map(|bit| 1 - bit).collect();
+        let place = words[2].parse().unwrap();
+        let record = lnav::read(&log, place).unwrap();
+        assert_eq!(lnav::read(&inverse, place).as_ref(), Ok(&record));
+        let kind = usize::from(record.kind()) - 1;
+        let fields = named_values(&record);
+        assert_eq!(expected[at], format!("kind {}", names[kind]));
+        assert_eq!(expected[at + 1..at + 1 + fields.len()], fields);
+        at += 1 + fields.len();
         round_trip(record);
-        kinds[usize::from(record.kind()) - 1] += 1;
+        kinds[kind] += 1;
     }
-    assert_eq!(kinds, [70, 70, 70, 88, 2, 38]);
+    assert_eq!(kinds, [35, 35, 35, 44, 1, 19]);
 }
 
 #[test]
 fn any_thread_may_call() {
-    let log = file("logs/data/recording.log");
+    let log = file("lnav/data/ublox-2008-sv05.log");
     let listing = lnav::list(&log);
     std::thread::scope(|scope| {
         for _ in 0..4 {

@@ -1,0 +1,103 @@
+// Clock terms, accuracy and time of day: of what the collector gives, and of a record.
+use clock::ClockTerms;
+use clock::GivenAccuracy;
+use clock::GivenTerms;
+use clock::UserRangeAccuracy;
+use collector::Collector;
+use collector::GivenUtc;
+use console::end_line;
+use console::print;
+use console::print_double;
+use console::print_refusal;
+use console::print_two_digits;
+use orbit_set::GivenSet;
+use record::Subframe1;
+use record::UtcPage;
+use utc::GivenTime;
+use utc::TimeOfDay;
+
+// Prints a name, a double with its unit, and the double's bits as a line.
+fn print_term(name: &[u8], x: f64, unit: &[u8]) {
+    print(name);
+    print_double(x, unit);
+    end_line();
+}
+
+fn print_terms(t: ClockTerms) {
+    print_term(b"tgd ", t.tgd, b"s");
+    print_term(b"af0 ", t.af0, b"s");
+    print_term(b"af1 ", t.af1, b"s/s");
+    print_term(b"af2 ", t.af2, b"s/s^2");
+}
+
+// The clock terms of a subframe 1.
+pub fn terms_of(r: Subframe1) {
+    match clock::clock_terms(r) {
+        GivenTerms::Given(t) => print_terms(t),
+        GivenTerms::Refused(refusal) => print_refusal(refusal),
+    }
+}
+
+// The clock terms of a satellite's set.
+pub fn clock(c: Collector, satellite: usize) {
+    match c.set(satellite) {
+        GivenSet::Given(given) => terms_of(given.subframe1),
+        GivenSet::Refused(r) => print_refusal(r),
+    }
+}
+
+fn print_accuracy(a: UserRangeAccuracy) {
+    match a {
+        UserRangeAccuracy::Metres(x) => print_term(b"metres ", x, b"m"),
+        UserRangeAccuracy::NoPrediction => print(b"no prediction\n"),
+    }
+}
+
+// The accuracy of a subframe 1.
+pub fn accuracy_of(r: Subframe1) {
+    match clock::accuracy(r) {
+        GivenAccuracy::Given(a) => print_accuracy(a),
+        GivenAccuracy::Refused(refusal) => print_refusal(refusal),
+    }
+}
+
+// The accuracy of a satellite's set.
+pub fn accuracy(c: Collector, satellite: usize) {
+    match c.set(satellite) {
+        GivenSet::Given(given) => accuracy_of(given.subframe1),
+        GivenSet::Refused(r) => print_refusal(r),
+    }
+}
+
+fn print_time(t: TimeOfDay) {
+    print_two_digits(t.hour);
+    print(b":");
+    print_two_digits(t.minute);
+    print(b":");
+    print_two_digits(t.second);
+    end_line();
+}
+
+// The largest number of 32 bits for a larger one.
+fn at_most_32_bits(n: u64) -> u32 {
+    if 4294967295 < n {
+        return 4294967295;
+    }
+    n as u32
+}
+
+// The time of day at a second of a week, by a UTC page.
+pub fn time_by(page: UtcPage, week: u64, second: u64) {
+    match utc::time_of_day(page, at_most_32_bits(week), at_most_32_bits(second)) {
+        GivenTime::Given(t) => print_time(t),
+        GivenTime::Refused(refusal) => print_refusal(refusal),
+    }
+}
+
+// The same by the held UTC page.
+pub fn time(c: Collector, week: u64, second: u64) {
+    match c.utc_page() {
+        GivenUtc::Given(page) => time_by(page, week, second),
+        GivenUtc::Refused(r) => print_refusal(r),
+    }
+}

@@ -1,0 +1,2 @@
+-- Laws about definitions of the crates below.
+pub mod Inside

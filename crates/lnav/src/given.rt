@@ -1,0 +1,190 @@
+// The record that the words of a line write.
+use crate::messages::NO_FIELD;
+use crate::messages::NO_KIND;
+use crate::messages::NO_NUMBER;
+use crate::messages::complain;
+use from_values::GivenRecord;
+use lines::Whole;
+use record_text::COUNT;
+use record_text::FIELDS;
+use record_text::FIRST;
+use record_text::KINDS;
+ghost use Prim.Native.Nat.{_≤_};
+ghost use lib.ListN.{length};
+
+// What a line writes: the answer to the question for the record, and the number of the word after its values; or nothing, after a message.
+pub(crate) enum Given {
+    Asked(GivenRecord, usize),
+    Nothing,
+}
+
+// The values of a record, and the number of the word after them.
+struct Values {
+    values: [i64; 25],
+    next: usize,
+    are_right: bool,
+}
+
+// The number of the kind with this name, or 7.
+fn kind_named(name: &[u8]) -> usize {
+    let kinds = KINDS;
+    std::num::wrapping_add_usize(lines::named(&kinds, name, 0, 6), 1)
+}
+
+// Whether word i of a line is the name of a kind.
+pub(crate) fn is_kind(line: &[u8], i: usize) -> bool {
+    kind_named(lines::word(line, i)) < 7
+}
+
+// How many fields a kind has.
+fn field_count(kind: usize) -> usize {
+    if 6 < kind {
+        return 0;
+    }
+    COUNT[kind]
+}
+
+// The number among a kind's own fields, which follow the six of the header, of the one with this name; 25 where it has none.
+fn own_field_named(kind: usize, fields: &[u8], name: &[u8]) -> usize {
+    if 6 < kind {
+        return 25;
+    }
+    let last = lines::named(fields, name, FIRST[kind], COUNT[kind]);
+    let i = std::num::wrapping_add_usize(last, 6);
+    if i < COUNT[kind] { i } else { 25 }
+}
+
+// The number of a kind's field with this name, or 25 where it has none.
+fn field_named(kind: usize, name: &[u8]) -> usize {
+    let fields = FIELDS;
+    let i = lines::named(&fields, name, 0, 6);
+    if i < 6 {
+        return i;
+    }
+    own_field_named(kind, &fields, name)
+}
+
+// The place of the first such byte of a text, or the text's length.
+fn place_of(text: &[u8], byte: u8) -> usize
+    ensures { λ r. ⌜ r ≤ length (now (text .entry)) ⌝ }
+{
+    let mut i: usize = 0;
+    while i < text.len() {
+        if text[i] == byte {
+            return i;
+        }
+        i += 1;
+    }
+    i
+}
+
+// The number of the field that a word is for, 25 where there is none, and the place of its number in the word.
+struct Field {
+    number: usize,
+    digits: usize,
+}
+
+// A word `NAME=NUMBER` is for the field with that name, any other for field i.
+fn field_of(kind: usize, word: &[u8], i: usize) -> Field
+    ensures { λ r. ⌜ r .digits ≤ length (now (word .entry)) ⌝ }
+{
+    let at = place_of(word, b'=');
+    if at < word.len() {
+        return Field {
+            number: field_named(kind, &word[0..at]),
+            digits: at + 1,
+        };
+    }
+    if i < field_count(kind) {
+        return Field {
+            number: i,
+            digits: 0,
+        };
+    }
+    Field {
+        number: 25,
+        digits: 0,
+    }
+}
+
+// The values before any is given: 0, but for those that make the kind. Value 5 is the subframe number; the first two fields of a page are its IDs.
+fn first_values(kind: usize) -> [i64; 25] {
+    let mut values = [0i64; 25];
+    match kind {
+        1 => values[5] = 1,
+        2 => values[5] = 2,
+        3 => values[5] = 3,
+        4 => {
+            values[5] = 5;
+            values[6] = 1;
+            values[7] = 1;
+        }
+        5 => {
+            values[5] = 4;
+            values[6] = 1;
+            values[7] = 56;
+        }
+        _ => values[5] = 4,
+    }
+    values
+}
+
+// Whether the values of a line end before this word.
+fn is_end(word: &[u8]) -> bool {
+    if word.len() == 0 {
+        return true;
+    }
+    lines::same(word, b"inverted")
+}
+
+fn wrong(message: usize, line: &[u8], values: [i64; 25]) -> Values {
+    complain(message, line);
+    Values {
+        values,
+        next: 0,
+        are_right: false,
+    }
+}
+
+// The values of a kind that the words of a line from word `from` on write.
+fn values_in(kind: usize, line: &[u8], from: usize) -> Values {
+    let mut values = first_values(kind);
+    let mut i: usize = 0;
+    while i < 25 {
+        let word = lines::word(line, std::num::wrapping_add_usize(from, i));
+        if is_end(word) {
+            break;
+        }
+        let field = field_of(kind, word, i);
+        let number = field.number;
+        let digits = field.digits;
+        if 24 < number {
+            return wrong(NO_FIELD, line, values);
+        }
+        let Whole::Value(value) = lines::whole(&word[digits..]) else {
+            return wrong(NO_NUMBER, line, values);
+        };
+        values[number] = value;
+        i += 1;
+    }
+    Values {
+        values,
+        next: std::num::wrapping_add_usize(from, i),
+        are_right: true,
+    }
+}
+
+// The record that the words from word i on write: its kind, and its values.
+pub(crate) fn record_in(line: &[u8], i: usize) -> Given {
+    let kind = kind_named(lines::word(line, i));
+    if 6 < kind {
+        complain(NO_KIND, line);
+        return Given::Nothing;
+    }
+    let read = values_in(kind, line, std::num::wrapping_add_usize(i, 1));
+    if !read.are_right {
+        return Given::Nothing;
+    }
+    let values = read.values;
+    Given::Asked(from_values::record_with(kind as u8, &values), read.next)
+}

@@ -1,2 +1,0 @@
--- The files of this folder: internal, definitions that only private contracts cite.
-pub mod internal
