@@ -21,31 +21,31 @@ fn print_polarity(polarity: Polarity) {
     }
 }
 
-// What a block says of itself, where the part is one: the part of a refused search is empty.
+// The part of a log that a search gives, and what its block says of itself. That of a refused search is empty.
 fn print_part(part: &[u8]) {
-    if part.len() == 0 {
-        return;
-    }
-    print(b" bytes=");
+    print(b"part bytes=");
     print_number(part.len() as u64);
-    print_polarity(block::polarity_at(part, 0));
-    print(b" subframe=");
-    print_number(block::subframe_number_at(part, 0) as u64);
-    print(b" count=");
-    print_number(block::count_at(part, 0) as u64);
+    if part.len() != 0 {
+        print_polarity(block::polarity_at(part, 0));
+        print(b" subframe=");
+        print_number(block::subframe_number_at(part, 0) as u64);
+        print(b" count=");
+        print_number(block::count_at(part, 0) as u64);
+    }
+    end_line();
 }
 
-// The search from a place on.
+// The search from a place on: its place or refusal, and its part.
 pub fn find(log: &[u8], p: usize) {
     match search::find(log, p) {
         Found::At(q) => {
             print(b"found ");
             print_number(q as u64);
-            print_part(search::find_part(log, p));
             end_line();
         }
         Found::Refused(r) => print_refusal(r),
     }
+    print_part(search::find_part(log, p));
 }
 
 // Document 01's listing.

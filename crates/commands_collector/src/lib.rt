@@ -1,13 +1,13 @@
-// The questions to the collector, and what is worked out of its records. Each prints its answer.
+// The answers of the collector, and what is worked out of its records, as lines.
 mod questions;
 mod times;
 
-pub use questions::almanac;
-pub use questions::set;
-pub use questions::utc;
-pub use times::accuracy;
-pub use times::accuracy_of;
-pub use times::clock;
-pub use times::terms_of;
-pub use times::time;
-pub use times::time_by;
+pub use questions::print_almanac;
+pub use questions::print_set;
+pub use questions::print_utc;
+pub use times::print_accuracy;
+pub use times::print_accuracy_of;
+pub use times::print_clock;
+pub use times::print_terms_of;
+pub use times::print_time;
+pub use times::print_time_by;

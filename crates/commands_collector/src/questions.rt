@@ -1,5 +1,4 @@
-// The questions for an orbit set, an almanac page and the UTC page.
-use collector::Collector;
+// The answers to the questions for an orbit set, an almanac page and the UTC page.
 use collector::GivenAlmanac;
 use collector::GivenUtc;
 use console::print_refusal;
@@ -8,7 +7,7 @@ use orbit_set::OrbitSet;
 use record::Record;
 use record_text::print_record;
 
-fn print_set(set: OrbitSet) {
+fn print_records(set: OrbitSet) {
     let one = set.subframe1;
     let two = set.subframe2;
     let three = set.subframe3;
@@ -17,26 +16,24 @@ fn print_set(set: OrbitSet) {
     print_record(Record::Subframe3(three));
 }
 
-// The set of a satellite: three lines.
-pub fn set(c: Collector, satellite: usize) {
-    match c.set(satellite) {
-        GivenSet::Given(given) => print_set(given),
+// An orbit set is three lines.
+pub fn print_set(set: GivenSet) {
+    match set {
+        GivenSet::Given(given) => print_records(given),
         GivenSet::Refused(r) => print_refusal(r),
     }
 }
 
-// The almanac page for an SV ID.
-pub fn almanac(c: Collector, id: usize) {
-    match c.almanac(id) {
-        GivenAlmanac::Given(page) => print_record(Record::Almanac(page)),
+pub fn print_almanac(page: GivenAlmanac) {
+    match page {
+        GivenAlmanac::Given(given) => print_record(Record::Almanac(given)),
         GivenAlmanac::Refused(r) => print_refusal(r),
     }
 }
 
-// The UTC page.
-pub fn utc(c: Collector) {
-    match c.utc_page() {
-        GivenUtc::Given(page) => print_record(Record::Utc(page)),
+pub fn print_utc(page: GivenUtc) {
+    match page {
+        GivenUtc::Given(given) => print_record(Record::Utc(given)),
         GivenUtc::Refused(r) => print_refusal(r),
     }
 }

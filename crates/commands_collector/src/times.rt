@@ -1,12 +1,12 @@
-// Clock terms, accuracy and time of day: of what the collector gives, and of a record.
+// Clock terms, accuracy and time of day: of a record, and of what the collector gives.
 use clock::ClockTerms;
 use clock::GivenAccuracy;
 use clock::GivenTerms;
 use clock::UserRangeAccuracy;
-use collector::Collector;
 use collector::GivenUtc;
 use console::end_line;
 use console::print;
+use console::print_byte;
 use console::print_double;
 use console::print_refusal;
 use console::print_two_digits;
@@ -31,22 +31,22 @@ fn print_terms(t: ClockTerms) {
 }
 
 // The clock terms of a subframe 1.
-pub fn terms_of(r: Subframe1) {
+pub fn print_terms_of(r: Subframe1) {
     match clock::clock_terms(r) {
         GivenTerms::Given(t) => print_terms(t),
         GivenTerms::Refused(refusal) => print_refusal(refusal),
     }
 }
 
-// The clock terms of a satellite's set.
-pub fn clock(c: Collector, satellite: usize) {
-    match c.set(satellite) {
-        GivenSet::Given(given) => terms_of(given.subframe1),
+// The clock terms of an orbit set.
+pub fn print_clock(set: GivenSet) {
+    match set {
+        GivenSet::Given(given) => print_terms_of(given.subframe1),
         GivenSet::Refused(r) => print_refusal(r),
     }
 }
 
-fn print_accuracy(a: UserRangeAccuracy) {
+fn print_length(a: UserRangeAccuracy) {
     match a {
         UserRangeAccuracy::Metres(x) => print_term(b"metres ", x, b"m"),
         UserRangeAccuracy::NoPrediction => print(b"no prediction\n"),
@@ -54,26 +54,26 @@ fn print_accuracy(a: UserRangeAccuracy) {
 }
 
 // The accuracy of a subframe 1.
-pub fn accuracy_of(r: Subframe1) {
+pub fn print_accuracy_of(r: Subframe1) {
     match clock::accuracy(r) {
-        GivenAccuracy::Given(a) => print_accuracy(a),
+        GivenAccuracy::Given(a) => print_length(a),
         GivenAccuracy::Refused(refusal) => print_refusal(refusal),
     }
 }
 
-// The accuracy of a satellite's set.
-pub fn accuracy(c: Collector, satellite: usize) {
-    match c.set(satellite) {
-        GivenSet::Given(given) => accuracy_of(given.subframe1),
+// The accuracy of an orbit set.
+pub fn print_accuracy(set: GivenSet) {
+    match set {
+        GivenSet::Given(given) => print_accuracy_of(given.subframe1),
         GivenSet::Refused(r) => print_refusal(r),
     }
 }
 
-fn print_time(t: TimeOfDay) {
+fn print_time_of_day(t: TimeOfDay) {
     print_two_digits(t.hour);
-    print(b":");
+    print_byte(b':');
     print_two_digits(t.minute);
-    print(b":");
+    print_byte(b':');
     print_two_digits(t.second);
     end_line();
 }
@@ -87,17 +87,17 @@ fn at_most_32_bits(n: u64) -> u32 {
 }
 
 // The time of day at a second of a week, by a UTC page.
-pub fn time_by(page: UtcPage, week: u64, second: u64) {
+pub fn print_time_by(page: UtcPage, week: u64, second: u64) {
     match utc::time_of_day(page, at_most_32_bits(week), at_most_32_bits(second)) {
-        GivenTime::Given(t) => print_time(t),
+        GivenTime::Given(t) => print_time_of_day(t),
         GivenTime::Refused(refusal) => print_refusal(refusal),
     }
 }
 
-// The same by the held UTC page.
-pub fn time(c: Collector, week: u64, second: u64) {
-    match c.utc_page() {
-        GivenUtc::Given(page) => time_by(page, week, second),
+// The same by the page that the collector gives.
+pub fn print_time(page: GivenUtc, week: u64, second: u64) {
+    match page {
+        GivenUtc::Given(given) => print_time_by(given, week, second),
         GivenUtc::Refused(r) => print_refusal(r),
     }
 }

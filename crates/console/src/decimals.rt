@@ -1,5 +1,6 @@
 // Numbers that are no whole ones, as exact decimals.
 use crate::output::print;
+use crate::output::print_byte;
 use crate::output::print_number;
 use crate::output::space;
 use integers::absolute;
@@ -34,7 +35,7 @@ fn print_fraction(n: u64, unit: u64) {
 // Prints n / 2^places, for at most 60 binary places.
 fn print_binary(n: u64, places: u64) {
     if 60 < places {
-        print(b"?");
+        print_byte(b'?');
         return;
     }
     let unit = 1u64 << places;
@@ -45,24 +46,24 @@ fn print_binary(n: u64, places: u64) {
     if n % unit == 0 {
         return;
     }
-    print(b".");
+    print_byte(b'.');
     print_fraction(n % unit, unit);
 }
 
 fn print_sign(is_negative: bool) {
     if is_negative {
-        print(b"-");
+        print_byte(b'-');
     }
 }
 
 // Prints n times the factor, which are below 2^32: a field's number and its scale are.
 fn print_product(n: u64, factor: u64) {
     if 4294967295 < n {
-        print(b"?");
+        print_byte(b'?');
         return;
     }
     if 4294967295 < factor {
-        print(b"?");
+        print_byte(b'?');
         return;
     }
     print_number(n * factor);
@@ -99,11 +100,11 @@ fn print_value(bits: u64) {
     let fraction = bits % 4503599627370496;
     print_sign(bits / 9223372036854775808 == 1);
     if exponent == 0 {
-        print(b"0");
+        print_byte(b'0');
         return;
     }
     if 1075 < exponent {
-        print(b"?");
+        print_byte(b'?');
         return;
     }
     print_reduced(4503599627370496 + fraction, 1075 - exponent);

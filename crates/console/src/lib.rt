@@ -19,6 +19,7 @@ pub use output::complain;
 pub use output::end_line;
 pub use output::print;
 pub use output::print_bits;
+pub use output::print_byte;
 pub use output::print_number;
 pub use output::print_signed;
 pub use output::print_two_digits;

@@ -10,12 +10,17 @@ pub fn print_number(n: u64) {
     io::print_decimal(STDOUT_FILENO, n);
 }
 
+pub fn print_byte(byte: u8) {
+    let text = [byte; 1];
+    print(&text);
+}
+
 pub fn space() {
-    print(b" ");
+    print_byte(b' ');
 }
 
 pub fn end_line() {
-    print(b"\n");
+    print_byte(b'\n');
 }
 
 // Prints line i of a table, counted from 0.
@@ -26,14 +31,14 @@ pub fn say(table: &[u8], i: usize) {
 // A number below 100 in two digits.
 pub fn print_two_digits(n: u32) {
     if n < 10 {
-        print(b"0");
+        print_byte(b'0');
     }
     print_number(n as u64);
 }
 
 pub fn print_signed(z: i64) {
     if z < 0 {
-        print(b"-");
+        print_byte(b'-');
     }
     print_number(integers::absolute(z));
 }

@@ -238,12 +238,12 @@ def recorded_cases(recording):
     block = flipped(inverse(first), index_of(8, 29), index_of(8, 30))
     yield packed('recorded block inverted, flipped: word 8 bits 29 and 30', 5, 8, block)
 
-# The first stated place at or after a place, or the refusal.
+# The first stated place at or after a place with the block there, or the refusal with the empty part.
 def found(case, places, place):
     if case.number == 1:
-        return 'refused 1 65537'
+        return 'refused 1 65537\npart bytes=0'
     after = [accepted for accepted in places if accepted >= place]
-    return 'found %d' % min(after) if after else 'refused 10 %d' % place
+    return 'found %d\npart bytes=302' % min(after) if after else 'refused 10 %d\npart bytes=0' % place
 
 def build(s):
     cases = [*size_cases(), *odd_cases(), *made_cases(), *recorded_cases(s.recording('ublox-m8t-sv03.log'))]

@@ -63,8 +63,8 @@ BY_HAND = {
 302 U subframe1 count=18001 week=457 health=0 iodc_high=0 iodc_low=48: refused 17 2''',
 }
 # The places of the accepted blocks that are read, and what is asked of the block at place 0 before any is fed.
-READ = {'data-bits': [300], 'mid-stream': [35], 'health': [900], 'iodc': [0], 'almanac': [0, 600, 900],
-        'inverted': [0, 300]}
+READ = {'data-bits': [300], 'mid-stream': [35, 335], 'health': [900, 1200, 1500], 'iodc': [0],
+        'almanac': [0, 300, 600, 900], 'inverted': [0, 300], 'fillers': [302]}
 BEFORE = {'word-before': ['words'], 'fillers': ['words', 'read']}
 
 COUNTS = 'subframe1 count=%d\nsubframe2 count=%d\nsubframe3 count=%d'
@@ -147,7 +147,7 @@ def build(s):
         s.make(one.name + '.log', one.made[one.name + '.log'])
         s.make(one.name + '.txt', subject.text_of(one.commands))
         s.do('run %s.txt' % one.name, *one.output)
-    quotes.check(lessons.values(), wrong_outputs(lessons))
+    quotes.check_course(lessons.values(), wrong_outputs(lessons))
 
 # The blocks of the logs, also those that are written.
 def compare():

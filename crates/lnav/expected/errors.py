@@ -82,7 +82,8 @@ def commands(s):
     s.fail('too many words', '''check example.log 5 5 | find example.log 5 5 | list example.log 5 |
         read example.log 5 5 | words example.log 5 5 | invert written 5 | flip written 5 5 | feed example.log 5 5 5 |
         feed-all example.log 5 5 | set 5 5 | almanac 5 5 | utc 5 | clock 5 5 | accuracy 5 5 | forget 5 |
-        run errors-itself.txt 5 | help 5 | write utc inverted dn=3''')
+        run errors-itself.txt 5 | help 5 | write utc inverted dn=3 | clock subframe1 inverted |
+        accuracy subframe1 ura=3 inverted | time 2000 0 utc inverted''')
     s.fail('too many words', 'word %s 5' % ZEROS)
     s.ask_held()
 
@@ -118,6 +119,20 @@ def values(s):
         s.write('utc', dn=dn, expect='refused 11 0')
     s.ask_held()
 
+# Records on the line of a question that takes another kind.
+def other_kinds(s):
+    s.comment('clock and accuracy take a subframe 1, time a UTC page; the kind comes before a value beyond its field')
+    s.fail('no such kind', '''clock utc dn=3 | accuracy subframe2 | time 2000 0 subframe1 | clock other id=300 |
+        accuracy almanac | clock subframe3 1 2 3 | time 8192 604800 other''')
+    s.comment('a value of a wrong form comes before a word too many, and that before the kind')
+    s.fail('not a number', '''clock utc dn=x | accuracy subframe2 x | time 2000 0 subframe1 week= | time x 0 subframe1 |
+        write utc dn=x inverted 5 | clock utc dn=x inverted | time 2000 0 utc dn=x inverted''')
+    s.fail('no such field', '''clock utc week=3 | accuracy subframe2 dn=3 | time 2000 0 subframe1 dn=3 |
+        write utc week=3 inverted 5 | clock subframe1 dn=3 inverted''')
+    s.fail('too many words', '''clock utc inverted | accuracy subframe2 iode=3 inverted |
+        time 2000 0 subframe1 inverted | clock other id=300 inverted''')
+    s.ask_held()
+
 def files(s):
     s.comment('files that are not there')
     s.fail('cannot be read', '''check missing.log 0 | find missing.log 0 | list missing.log | read missing.log 0 |
@@ -130,7 +145,8 @@ def files(s):
     s.do('run empty.log')
     s.ask_held()
 
-# Eight inputs at once, and no more: seven files below standard input, or eight. Then each file goes on after its command.
+# Eight inputs at once, and no more: seven files below standard input, or eight. Then each file goes on after its
+# command.
 def run_itself(s, files=7):
     s.do('run errors-itself.txt', *['# in'] * files, *['# out'] * files)
     s.errors.append('too many files: run errors-itself.txt')
@@ -152,15 +168,15 @@ def changes(s):
 
 # The last line has no line feed.
 def forgotten(s):
-    s.comment('nothing is held after forget')
+    s.comment('nothing is held after forget, and the block that was written last stays')
     s.forget()
-    s.fail('nothing is written', 'check written 0', 'invert written')
     s.set(5, 'refused 17 1')
     s.utc('refused 20 0')
+    s.check('written', 0, 'accepted')
 
 def errors():
     s = Errors('errors')
-    for part in (nothing_written, hold, lines, commands, numbers, values, files, changes, forgotten):
+    for part in (nothing_written, hold, lines, commands, numbers, values, other_kinds, files, changes, forgotten):
         part(s)
     assert {error.split(':')[0] for error in s.errors} == set(MESSAGES.replace('\n', ' ').split(', '))
     return s
@@ -170,8 +186,8 @@ def errors():
 CALLS = [
     lambda s: s.check(SV05, 0, 'accepted'),
     lambda s: s.check(SV05, 1, 'refused 4 1'),
-    lambda s: s.find('example.log', 0, 'found 5'),
-    lambda s: s.find('example.log', 6, 'refused 10 6'),
+    lambda s: s.find('example.log', 0, 'found 5\npart bytes=302 polarity=U subframe=1 count=0'),
+    lambda s: s.find('example.log', 6, 'refused 10 6\npart bytes=0'),
     lambda s: s.list('example.log', 'place id count polarity\n5 1 0 U'),
     lambda s: s.read(SV05, 300, 'kind subframe1\ncount 17996'),
     lambda s: s.read('example.log', 6, 'refused 3 6'),

@@ -59,9 +59,9 @@ def search(s, name, places, met):
     overlong = 'refused 1 %d' % size if size > MOST else None
     s.comment('%s, %d bytes' % (name, size))
     for start, found in zip([0] + [place + 1 for place in places], places):
-        s.find(name, start, 'found %d bytes=302' % found)
+        s.find(name, start, 'found %d\npart bytes=302' % found)
     for start in (places[-1] + 1 if places else 0, size, GREATEST):
-        s.find(name, start, overlong or 'refused 10 %d' % start)
+        s.find(name, start, (overlong or 'refused 10 %d' % start) + '\npart bytes=0')
     lines = s.list(name, 'refused 1' if overlong else 'place id count polarity')
     assert [int(line.split()[0]) for line in lines[1:]] == met
 

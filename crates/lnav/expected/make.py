@@ -3,8 +3,9 @@
 #     data/*.log          the logs that are made
 #     stdin, stdout       the subjects in their order, and all that they are to print
 #     errors.*, calls.*   what cannot be done, with its messages, and calls with one command (errors.py)
-# A subject is a module here with a function build, which is given a subject.Subject, and perhaps a function compare,
-# for gpsdecode. Needs Python 3. It stops where an answer is not the one that a subject states by hand.
+# A subject is a module here, with _ for a - of its name. It has a function build, which is given a subject.Subject, and
+# perhaps a function compare, for gpsdecode. Needs Python 3. It stops where an answer is not the one that a subject
+# states by hand, and where docs/COURSE.md or README.md quotes what is not said (quotes.py).
 #     python3 make.py                makes these files
 #     python3 make.py --check        makes nothing; stops where a file is missing or is not what would be made, and
 #                                    where data/ has a file that no subject uses
@@ -19,13 +20,12 @@ import errors
 import questions
 import subject
 
-SUBJECTS = 'words blocks logs records round_trip season timing course'.split()
+SUBJECTS = 'first-steps words blocks logs records round_trip season timing course'.split()
 HERE = os.path.dirname(os.path.abspath(__file__))
 CRATE = os.path.join(HERE, os.pardir)
 
 def modules():
-    there = [name for name in SUBJECTS if os.path.exists(os.path.join(HERE, name + '.py'))]
-    return {name: importlib.import_module(name) for name in there}
+    return {name: importlib.import_module(name.replace('-', '_')) for name in SUBJECTS}
 
 def built(name, module):
     made = subject.Subject(name)
@@ -56,10 +56,13 @@ def check(files):
             if file.read() != content:
                 sys.exit('%s is not what is made' % name)
 
+# Each file of data/ is made or is a recording, and a command names it. errors.txt is read from standard input.
 def check_all_used(files, subjects):
-    used = set(files).union('data/' + name for s in subjects for name in s.recordings)
+    known = set(files).union('data/' + name for s in subjects for name in s.recordings)
+    commands = [content.decode() for name, content in files.items() if name == 'stdin' or name.endswith('.txt')]
+    named = {'errors.txt', *' '.join(commands).split()}
     for name in sorted(os.listdir(subject.DATA)):
-        if 'data/' + name not in used:
+        if 'data/' + name not in known or name not in named:
             sys.exit('no subject uses data/%s' % name)
 
 def write(files):

@@ -1,18 +1,21 @@
-# Every field of every block of the four recordings, by `read`. Stated by hand: subframe numbers and counts, and fields
-# of a block of each kind with their values, number times scale. With --gpsdecode every number that gpsdecode prints is
-# compared, for the recordings and for their inverses.
+# Every field of every block of the four recordings and of their inverses, by `read`, and the listing of each. Stated by
+# hand: subframe numbers and counts, and fields of a block of each kind with their values, number times scale. They are
+# the same for an inverse. With --gpsdecode every number that gpsdecode prints is compared, for the recordings and for
+# their inverses.
+import collections
 import itertools
 import gpsdecode
 import paper
 import subject
 
 # Name, satellite, subframe numbers, which repeat, and counts of each recording. A block stands every 300 bytes.
-RECORDINGS = [
-    ('ublox-m8t-sv03.log', 3, (4, 5, 1, 2, 3), range(73764, 73844)),
-    ('ublox-2008-sv05.log', 5, (5, 1, 2, 3, 4), range(17995, 18035)),
-    ('ublox-2008-sv12.log', 12, (5, 1, 2, 3, 4), range(17995, 18035)),
-    ('novatel-2009-sv03.log', 3, (1, 2, 3), (85871, 85867, 85868, 85871, 85872, 85873, 85876, 85877, 85873)),
-]
+Recording = collections.namedtuple('Recording', 'name satellite order counts')
+M8T = Recording('ublox-m8t-sv03.log', 3, (4, 5, 1, 2, 3), range(73764, 73844))
+SV05 = Recording('ublox-2008-sv05.log', 5, (5, 1, 2, 3, 4), range(17995, 18035))
+SV12 = Recording('ublox-2008-sv12.log', 12, (5, 1, 2, 3, 4), range(17995, 18035))
+NOVATEL = Recording('novatel-2009-sv03.log', 3, (1, 2, 3),
+                    (85871, 85867, 85868, 85871, 85872, 85873, 85876, 85877, 85873))
+RECORDINGS = [M8T, SV05, SV12, NOVATEL]
 # Blocks of ublox-m8t-sv03.log, by place. The numbers are gpsdecode's, save those of reserved bits and of the data ID,
 # which it does not print.
 BY_HAND = {
@@ -69,23 +72,62 @@ BY_HAND = {
 def blocks_of(recording):
     return [(place, recording[place:place + 302]) for place in range(0, len(recording) - 301, 300)]
 
+# Place, subframe number and count of each block, as they are stated.
+def numbers_of(recording):
+    places = range(0, 300 * len(recording.counts), 300)
+    return list(zip(places, itertools.cycle(recording.order), recording.counts))
+
+# Makes the inverse of a recording, and gives its name.
+def make_inverse(s, name):
+    return s.make(name.replace('.log', '-inverted.log'), paper.inverse(s.recording(name)))
+
+# The listing of a log that is made of recordings, one after the other, each with its polarity, 'U' or 'I'.
+def list_joined(s, log, *parts):
+    stated, start = ['place id count polarity'], 0
+    for recording, polarity in parts:
+        numbers = numbers_of(recording)
+        stated += ['%d %d %d %s' % (start + place, subframe, count, polarity) for place, subframe, count in numbers]
+        start += 300 * len(numbers) + 2
+    assert len(s.log(log)) == start
+    lines = s.list(log, '\n'.join(stated))
+    assert len(lines) == len(stated)
+    return lines
+
+# Feeds every block of a recording for its satellite. The walk ends after the last.
+def feed_whole(s, recording):
+    end = 300 * len(recording.counts)
+    walk = ['feed %d %d accepted' % (place, recording.satellite) for place in range(0, end, 300)]
+    lines = s.feed_all(recording.name, recording.satellite, '\n'.join(walk + ['refused 10 %d' % end]))
+    assert len(lines) == len(walk) + 1
+
+# What is stated of the fields of a block.
+def fields_stated(name, place, subframe, count):
+    stated = ['count %d %d s' % (count, 6 * count), 'subframe %d' % subframe]
+    if name == M8T.name and place in BY_HAND:
+        kind, *fields = BY_HAND[place].splitlines()
+        stated = [kind, *stated, *fields]
+    return '\n'.join(stated)
+
+# The listing of a recording or of its inverse, and every block of it. Gives the answers.
+def read_all(s, log, recording, polarity):
+    s.comment(log)
+    list_joined(s, log, (recording, polarity))
+    answers = []
+    for place, subframe, count in numbers_of(recording):
+        s.comment('%s %d' % (log, place))
+        answers.append(s.read(log, place, fields_stated(recording.name, place, subframe, count)))
+    return answers
+
 def build(s):
-    for name, _, order, counts in RECORDINGS:
-        blocks = blocks_of(s.recording(name))
-        assert len(blocks) == len(counts) and len(s.log(name)) == 300 * len(counts) + 2
-        for (place, _), subframe, count in zip(blocks, itertools.cycle(order), counts):
-            stated = ['count %d %d s' % (count, 6 * count), 'subframe %d' % subframe]
-            if name == 'ublox-m8t-sv03.log' and place in BY_HAND:
-                kind, *fields = BY_HAND[place].splitlines()
-                stated = [kind, *stated, *fields]
-            s.comment('%s %d' % (name, place))
-            s.read(name, place, '\n'.join(stated))
+    for recording in RECORDINGS:
+        inverted = make_inverse(s, recording.name)
+        assert read_all(s, recording.name, recording, 'U') == read_all(s, inverted, recording, 'I')
 
 def compare():
     compared = []
-    for name, satellite, *_ in RECORDINGS:
-        for _, block in blocks_of(subject.recording(name)):
-            upright, inverted = [gpsdecode.compare(b, satellite) for b in (block, paper.inverse(block))]
+    for recording in RECORDINGS:
+        for _, block in blocks_of(subject.recording(recording.name)):
+            upright, inverted = [gpsdecode.compare(b, recording.satellite) for b in (block, paper.inverse(block))]
             assert upright == inverted
             compared += [upright, inverted]
     return gpsdecode.figures(compared)

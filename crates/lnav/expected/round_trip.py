@@ -1,6 +1,6 @@
 # Records to blocks and back, by `write` and `read`: the ends of every field of each kind, values beyond them, and every
 # recorded block, written anew from its numbers. Stated by hand: a written block has the numbers asked for; a recorded
-# one comes back bit for bit, and inverted as its inverse.
+# one comes back bit for bit, and inverted as its inverse; a log of both polarities has all its blocks.
 import itertools
 import gpsdecode
 import paper
@@ -47,6 +47,7 @@ BEYOND = [
     ('UTC page with ID 57', 'utc', {'id': 57}),
     ('UTC page with data ID 0', 'utc', {'data_id': 0}),
     ('other page with the IDs of an almanac page', 'other', {'data_id': 1, 'id': 1}),
+    ('other page with the IDs of an almanac page, SV ID 32', 'other', {'data_id': 1, 'id': 32}),
     ('other page with the IDs of the UTC page', 'other', {'data_id': 1, 'id': 56}),
     ('other page in subframe 6', 'other', {'subframe': 6}),
     ('week 2^32, which is 0 modulo 2^32', 'subframe1', {'week': 2 ** 32}),
@@ -112,10 +113,10 @@ def refusals(s):
 
 # The block of every recorded record, upright as it was recorded and inverted as its inverse.
 def recorded(s):
-    for name, *_ in records.RECORDINGS:
-        for place, block in records.blocks_of(s.recording(name)):
+    for recording in records.RECORDINGS:
+        for place, block in records.blocks_of(s.recording(recording.name)):
             record = paper.read(block)
-            s.comment('%s %d' % (name, place))
+            s.comment('%s %d' % (recording.name, place))
             s.write(record, expect=paper.digits(block))
             s.write(record, inverted=True, expect=paper.digits(inverse(block)))
             s.read('written', 0, numbers_of(record))
@@ -129,27 +130,38 @@ TEN_PASS = '\n'.join('%d passes' % k for k in range(1, 11))
 def changes(s, block):
     subframe, count = paper.subframe_and_count(block)
     s.words('written', 0, TEN_PASS)
-    s.find('written', 0, 'found 0 bytes=302 polarity=I subframe=%d count=%d' % (subframe, count))
-    s.find('written', 1, 'refused 10 1')
+    s.find('written', 0, 'found 0\npart bytes=302 polarity=I subframe=%d count=%d' % (subframe, count))
+    s.find('written', 1, 'refused 10 1\npart bytes=0')
     s.check('written', 1, 'refused 3 1')
     s.invert(paper.digits(block))
     s.words('written', 0, TEN_PASS)
-    s.find('written', 0, 'found 0 bytes=302 polarity=U subframe=%d count=%d' % (subframe, count))
+    s.find('written', 0, 'found 0\npart bytes=302 polarity=U subframe=%d count=%d' % (subframe, count))
     s.list('written', 'place id count polarity\n0 %d %d U' % (subframe, count))
     for index, refusal in ((0, '4 0'), (31, '5 1'), (301, '5 10')):
         s.flip(index)
         s.check('written', 0, 'refused ' + refusal)
-        s.find('written', 0, 'refused 10 0')
+        s.find('written', 0, 'refused 10 0\npart bytes=0')
         s.words('written', 0)
         s.read('written', 0, 'refused ' + refusal)
         s.flip(index, paper.digits(block))
     s.check('written', 0, 'accepted')
+
+# Two recordings, each followed by its inverse. The last block ends with the log.
+def polarities(s):
+    s.comment('a log that changes its polarity three times: 178 blocks')
+    m8t, novatel = s.recording(records.M8T.name), s.recording(records.NOVATEL.name)
+    log = s.make('polarities.log', m8t + inverse(m8t) + novatel + inverse(novatel))
+    parts = [(recording, polarity) for recording in (records.M8T, records.NOVATEL) for polarity in 'UI']
+    assert len(records.list_joined(s, log, *parts)) == 1 + 178
+    last = len(s.log(log)) - 302
+    s.find(log, last + 1, 'refused 10 %d\npart bytes=0' % (last + 1))
 
 def build(s):
     extremes(s)
     partial(s)
     refusals(s)
     recorded(s)
+    polarities(s)
 
 # The 48 blocks of extreme values, as satellite 1's.
 def compare():

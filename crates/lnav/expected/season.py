@@ -3,8 +3,9 @@
 import gpsdecode
 import logs
 import paper
+import records
 import subject
-from paper import GREATEST, changed, digits, inverse, with_byte
+from paper import GREATEST, changed, digits, flipped, inverse, with_byte
 
 SV05, SV12 = 'ublox-2008-sv05.log', 'ublox-2008-sv12.log'
 NOVATEL, M8T = 'novatel-2009-sv03.log', 'ublox-m8t-sv03.log'
@@ -107,16 +108,26 @@ def health(s, sv05):
     for place, stated in zip((1800, 600, 2100, 900, 2400), sets, strict=True):
         feed_and_set(s, SV05, place, 5, stated)
 
-# Indices 95, 100 and 110 are in word 4 alone, 92 to 121. Index 301 is the last bit of word 10, and index 0 is in the
-# start pair.
+# Indices of the flips in a block, then the log with the block at 1800 and its refusal there, then the refusal of the
+# block alone. Indices 95, 100 and 110 are in word 4 alone, 92 to 121. Index 301 is the last bit of word 10, and index 0
+# is in the start pair.
+FLIPS = [
+    ((95, 100, 110), 'flipped-word-4.log', '5 4', '5 4'),
+    ((301,), 'flipped-last.log', '5 10', '5 10'),
+    ((0,), 'flipped-first.log', '4 1800', '4 0'),
+]
+
 def flips(s, sv05):
     s.comment('flipped bits change nothing')
     block = sv05[1800:2102]
-    for indices, stated in (((95, 100, 110), 'refused 5 4'), ((301,), 'refused 5 10'), ((0,), 'refused 4 0')):
+    for indices, log, refusal, _ in FLIPS:
+        s.make(log, flipped(sv05[:2402], *(1800 + index for index in indices)))
+        feed_and_set(s, log, 1800, 5, set_5(), 'refused ' + refusal)
+    for indices, _, _, refusal in FLIPS:
         s.write(paper.read(block), expect=digits(block))
         for index in indices:
             s.flip(index)
-        feed_and_set(s, 'written', 0, 5, set_5(), stated)
+        feed_and_set(s, 'written', 0, 5, set_5(), 'refused ' + refusal)
 
 # The counts of the almanac pages after the first two recordings' first ten blocks and all of the fourth. The pages of a
 # subframe are five counts apart. Subframe 5 has SV IDs 3 to 18, with an other page in place of 14. Subframe 4 has 26 to
@@ -154,8 +165,9 @@ def pages(s, m8t):
 def refusals(s):
     s.comment('refusals change nothing')
     feeds = [(M8T, 0, 0, '13 0'), (M8T, 0, 33, '13 33'), (M8T, 600, GREATEST, '13 %d' % GREATEST),
-             ('overlong.log', 0, 33, '13 33'), ('overlong.log', 0, 3, '1 65537'), (M8T, 23701, 3, '3 23701'),
-             (M8T, GREATEST, 3, '3 %d' % GREATEST), ('spoilt.log', 600, 3, '2 700'), (M8T, 1, 3, '4 1')]
+             ('overlong.log', 0, 33, '13 33'), ('overlong.log', 0, 3, '1 65537'), ('zeros-65537.log', 0, 33, '13 33'),
+             ('zeros-65537.log', 0, 3, '1 65537'), (M8T, 23701, 3, '3 23701'), (M8T, GREATEST, 3, '3 %d' % GREATEST),
+             ('spoilt.log', 600, 3, '2 700'), (M8T, 1, 3, '4 1')]
     for log, place, satellite, refusal in feeds:
         feed(s, log, place, satellite, 'refused ' + refusal)
     for satellite, stated in ((3, SET_3), (5, set_5()), (12, SET_12)):
@@ -175,8 +187,7 @@ def whole_recording(s):
     s.set(12, 'refused 17 1')
     s.utc('refused 20 0')
     s.almanac(24, 'refused 20 0')
-    walk = ['feed %d 12 accepted' % place for place in range(0, 12000, 300)] + ['refused 10 12000']
-    assert len(s.feed_all(SV12, 12, '\n'.join(walk))) == len(walk)
+    records.feed_whole(s, records.SV12)
     s.set(12, set_of(111, (18031, 18032, 18033), 457, 0, 7200, 29561050, 2701974133, 7200))
     for sv_id, count in ((24, 17995), (1, None), (2, 18010), (6, 18030), (7, None)):
         s.almanac(sv_id, almanac_page(sv_id, count))
@@ -203,6 +214,7 @@ def build(s):
         check_recording(recording)
     s.make(INVERTED, inverse(sv05))
     s.make('overlong.log', logs.full(sv05) + bytes(1))
+    s.make('zeros-65537.log', bytes(65537))
     s.make('short.log', sv05[:301])
     s.make('spoilt.log', with_byte(m8t[:902], 700, 2))
     sets = cutover(s)
@@ -216,6 +228,6 @@ def build(s):
 
 # The blocks that are written. records.py compares the recorded ones.
 def compare():
-    records = [(record, 5) for record in written_records(subject.recording(SV05))]
-    records.append((written_utc(subject.recording(M8T)), 12))
-    return gpsdecode.figures([gpsdecode.compare(paper.write(record), satellite) for record, satellite in records])
+    fed = [(record, 5) for record in written_records(subject.recording(SV05))]
+    fed.append((written_utc(subject.recording(M8T)), 12))
+    return gpsdecode.figures([gpsdecode.compare(paper.write(record), satellite) for record, satellite in fed])

@@ -1,6 +1,7 @@
 # A subject: a file of commands for the program, and the lines that they are to print. Each method stands for a command:
 # it works the answer out by paper.py and questions.py, and keeps the collector and the written block as the program
-# would.
+# would. One process does the subjects in a row. Each begins with an empty collector, and asks for the written block
+# only after it has written one, because an earlier subject's stays.
 #
 # Every method but comment and do takes `expect`, the answer in words of the subject's own. Each line of it must agree
 # with a line of the answer, in order: the words without = are that line's first words, and those with = are among its
@@ -74,7 +75,9 @@ def accuracy_lines(record):
 class Subject:
     def __init__(self, name):
         self.name, self.commands, self.output = name, [], []
+        self.answers = {}                    # the latest answer to each command
         self.recordings, self.made = {}, {}  # the files of data/ that it uses and those that it makes
+        self.written = None
         self.forget()
 
     # ---- logs
@@ -102,6 +105,7 @@ class Subject:
     def do(self, command, *lines):
         self.commands.append(command)
         self.output += lines
+        self.answers[command] = lines
 
     def answer(self, command, lines, expect):
         if expect is not None and not agree(expect.splitlines(), lines):
@@ -117,13 +121,16 @@ class Subject:
             return ['accepted']
         return self.answer('check %s %d' % (log, place), lines_of(answer), expect)
 
+    # The part of the log that is found has a line of its own. It is empty where the search is refused.
     def find(self, log, place, expect=None):
-        def answer():
+        try:
             found = paper.find(self.log(log), place)
             block = paper.block_at(self.log(log), found)
-            numbers = (found, len(block), paper.polarity(block), *paper.subframe_and_count(block))
-            return ['found %d bytes=%d polarity=%s subframe=%d count=%d' % numbers]
-        return self.answer('find %s %d' % (log, place), lines_of(answer), expect)
+            numbers = (len(block), paper.polarity(block), *paper.subframe_and_count(block))
+            lines = ['found %d' % found, 'part bytes=%d polarity=%s subframe=%d count=%d' % numbers]
+        except Refused as refusal:
+            lines = [str(refusal), 'part bytes=0']
+        return self.answer('find %s %d' % (log, place), lines, expect)
 
     def list(self, log, expect=None):
         return self.answer('list ' + log, paper.listing(self.log(log)), expect)
@@ -192,8 +199,9 @@ class Subject:
             return [record_line(self.collector.utc())]
         return self.answer('utc', lines_of(answer), expect)
 
+    # The written block stays.
     def forget(self):
-        self.collector, self.written = questions.Collector(), None
+        self.collector = questions.Collector()
         self.do('forget')
 
     # ---- questions about a held record, or about the record that is given

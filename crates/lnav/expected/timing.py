@@ -4,12 +4,13 @@
 import datetime
 import paper
 import questions
+import records
 import subject
 from paper import GREATEST
 from second_way import accuracy_by_floats, clock_by_floats, gps_date, near_weeks, time_by_calendar, utc_date
 
-RECORDINGS = ['ublox-2008-sv05.log', 'ublox-2008-sv12.log', 'novatel-2009-sv03.log', 'ublox-m8t-sv03.log']
-SV05, M8T = RECORDINGS[0], RECORDINGS[3]
+RECORDINGS = [records.SV05, records.SV12, records.NOVATEL, records.M8T]
+SV05, M8T = records.SV05.name, records.M8T.name
 
 # Week and second of the times asked of the recorded page. 443,034 is 6 times 73,839, its count, in week 2117.
 RECORDED_TIMES = [(1929, 604799), (1930, 0), (1930, 17), (1930, 18), (2117, 443034), (2117, 604799), (2118, 0)]
@@ -160,11 +161,11 @@ def ask(s, question, given='subframe1', **named):
 def recorded_subframes(s):
     s.comment('recorded subframes 1')
     answers = []
-    for name in RECORDINGS:
-        recording = s.recording(name)
-        records = [paper.read(paper.block_at(recording, place)) for place in paper.walk(recording)[0]]
-        assert all(record.values['subframe'] == (record.values['count'] - 1) % 5 + 1 for record in records)
-        firsts = [record for record in records if record.kind == 'subframe1']
+    for recording in RECORDINGS:
+        log = s.recording(recording.name)
+        read = [paper.read(paper.block_at(log, place)) for place in paper.walk(log)[0]]
+        assert all(record.values['subframe'] == (record.values['count'] - 1) % 5 + 1 for record in read)
+        firsts = [record for record in read if record.kind == 'subframe1']
         answers += [ask(s, question, record) for record in firsts for question in SECOND_WAY]
     stated = 'subframe1 count=73766 week=69 ura=0 tgd=4 af0=-564075 af1=-98 af2=0'
     assert subject.agrees(stated, subject.record_line(firsts[0]))
@@ -190,14 +191,14 @@ def recorded_page(s):
 
 def clocks(s):
     s.comment('clock terms')
-    records = [dict(zip(questions.CLOCK, map(int, terms.split()))) for terms in CLOCKS.split(',')]
-    records += [{'count': 100799}, {'count': 100800}, {'subframe': 2}, {'week': 1024}, {'toc': 65536}]
-    return [ask(s, 'clock', **named) for named in records]
+    cases = [dict(zip(questions.CLOCK, map(int, terms.split()))) for terms in CLOCKS.split(',')]
+    cases += [{'count': 100799}, {'count': 100800}, {'subframe': 2}, {'week': 1024}, {'toc': 65536}]
+    return [ask(s, 'clock', **named) for named in cases]
 
 def accuracies(s):
     s.comment('accuracy')
-    records = [{'ura': ura} for ura in [*range(17), 4294967295]] + [{'ura': 15, 'tgd': 128}]
-    return [ask(s, 'accuracy', **named) for named in records]
+    cases = [{'ura': ura} for ura in [*range(17), 4294967295]] + [{'ura': 15, 'tgd': 128}]
+    return [ask(s, 'accuracy', **named) for named in cases]
 
 def times(s):
     s.comment('times')
@@ -238,6 +239,22 @@ def held(s):
     s.feed('written', 0, 5, 'feed 0 5 accepted')
     ask_satellite(s, 5)
 
+# From a recording to its satellite's answers. Stated are the count and the issue of the latest subframe 1; both
+# recordings of satellite 3 are fed to one collector.
+def fed_recordings(s):
+    s.comment('clock terms and accuracy after all of a recording')
+    for recording, count, issue in ((records.SV12, 18031, 111), (records.NOVATEL, 85876, 68), (records.M8T, 73841, 94)):
+        records.feed_whole(s, recording)
+        first = subject.record_line(s.collector.set(recording.satellite)[0])
+        assert subject.agrees('subframe1 count=%d iodc_low=%d' % (count, issue), first)
+        ask_satellite(s, recording.satellite)
+
+# The four recordings one after the other.
+def joined(s):
+    s.comment('the recordings in one log: 169 blocks')
+    log = s.make('joined.log', b''.join(s.recording(recording.name) for recording in RECORDINGS))
+    assert len(records.list_joined(s, log, *((recording, 'U') for recording in RECORDINGS))) == 1 + 169
+
 # ---- checks
 
 # The leap second at the end of 2016: the GPS offset was 17 s before it and is 18 s since. UTC 2017-01-01 00:00:00 was
@@ -271,3 +288,5 @@ def build(s):
     assert [len(part) for part in parts] == [2 * (8 + 8 + 3 + 16), 7, 18 + 5, 18 + 1, 60 + 4]
     check_by_hand(dict(answer for part in parts for answer in part))
     held(s)
+    fed_recordings(s)
+    joined(s)

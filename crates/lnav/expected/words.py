@@ -26,13 +26,13 @@ THREE_FLIPS = [(17, 29, 30), (11, 14, 16), (2, 26, 28), (11, 24, 25), (0, 4, 5),
 HELP = '''\
 check LOG PLACE                 the block check at a place
 find LOG PLACE                  the first accepted block at or after a place
-list LOG                        place, subframe number, count and polarity of every block
+list LOG                        place, number, count and polarity of each block
 read LOG PLACE                  every field of the block at a place
 words LOG PLACE                 the ten words of the block at a place
-word BITS                       one word: 32 digits, the two bits before it and its 30
-write KIND VALUE.. [inverted]   the block of a record; VALUE is NAME=NUMBER
-invert written                  swaps 0 and 1 in the block that was written last
-flip written INDEX              flips one bit of it, 0 to 301
+word BITS                       a word: 32 digits, the two bits before it first
+write KIND VALUE.. [inverted]   the block of a record
+invert written                  swaps 0 and 1 in the block
+flip written INDEX              flips one bit of the block, 0 to 301
 feed LOG PLACE SATELLITE        feeds the block at a place to the collector
 feed-all LOG SATELLITE          feeds every block of a log
 set N                           the orbit set of satellite N
@@ -44,8 +44,9 @@ time WEEK SECOND                the UTC time of day, by the UTC page
 forget                          empties the collector
 run FILE                        does the commands of a file
 help                            prints this
-LOG is a file of one byte a bit, or the word written: the block that was written last.
-KIND is subframe1, subframe2, subframe3, almanac, utc or other.
+LOG: a file of one byte a bit, or the word written: the block written last.
+KIND: subframe1, subframe2, subframe3, almanac, utc, other. VALUE: NAME=NUMBER.
+For N of clock and accuracy also subframe1 VALUE.., after SECOND utc VALUE..
 '''
 
 def group(s, comment, windows, expect):

@@ -1,4 +1,9 @@
 // Feeds, each with a line of answer.
+use crate::commands::FEED;
+use crate::commands::number_count;
+use crate::logs::put_log;
+use crate::numbers::last_numbers;
+use crate::written::Block;
 use collector::Collector;
 use console::print;
 use console::print_checked;
@@ -8,7 +13,7 @@ use console::space;
 use search::Found;
 
 // Feeds the block at place p, prints `feed`, the place, the satellite and the answer, and gives the collector after it.
-pub(crate) fn feed(c: Collector, log: &[u8], p: usize, satellite: usize) -> Collector {
+fn feed(c: Collector, log: &[u8], p: usize, satellite: usize) -> Collector {
     print(b"feed ");
     print_number(p as u64);
     space();
@@ -22,7 +27,7 @@ pub(crate) fn feed(c: Collector, log: &[u8], p: usize, satellite: usize) -> Coll
 
 // Feeds each block on the walk: finds the next one, feeds it, and goes on 300 places after its place. The last line is the refusal of the search
 // that ends the walk.
-pub(crate) fn feed_all(first: Collector, log: &[u8], satellite: usize) -> Collector {
+fn feed_all(first: Collector, log: &[u8], satellite: usize) -> Collector {
     let mut c = first;
     let mut p: usize = 0;
     loop {
@@ -37,4 +42,23 @@ pub(crate) fn feed_all(first: Collector, log: &[u8], satellite: usize) -> Collec
             }
         }
     }
+}
+
+// Feeds from the log that a line names: the block at a place, or all.
+pub(crate) fn feed_from_log(c: Collector, command: usize, line: &[u8], block: Block) -> Collector {
+    let numbers = last_numbers(line, 2, number_count(command));
+    if !numbers.are_right {
+        return c;
+    }
+    let mut log = console::log_buffer();
+    let input = put_log(line, block, &mut log);
+    if input.failed {
+        return c;
+    }
+    let length = input.length;
+    let first = numbers.first as usize;
+    if command == FEED {
+        return feed(c, &log[..length], first, numbers.second as usize);
+    }
+    feed_all(c, &log[..length], first)
 }

@@ -1,9 +1,9 @@
-// The record that the words of a line write.
+// The record that the words of a line write, as its kind and its values.
 use crate::messages::NO_FIELD;
 use crate::messages::NO_KIND;
 use crate::messages::NO_NUMBER;
 use crate::messages::complain;
-use from_values::GivenRecord;
+use crate::numbers::ends;
 use lines::Whole;
 use record_text::COUNT;
 use record_text::FIELDS;
@@ -12,17 +12,12 @@ use record_text::KINDS;
 ghost use Prim.Native.Nat.{_≤_};
 ghost use lib.ListN.{length};
 
-// What a line writes: the answer to the question for the record, and the number of the word after its values; or nothing, after a message.
-pub(crate) enum Given {
-    Asked(GivenRecord, usize),
-    Nothing,
-}
-
-// The values of a record, and the number of the word after them.
-struct Values {
-    values: [i64; 25],
-    next: usize,
-    are_right: bool,
+// The number of a kind, the values of a record, the number of the word after them, and whether they stand there.
+pub(crate) struct Given {
+    pub(crate) kind: usize,
+    pub(crate) values: [i64; 25],
+    pub(crate) next: usize,
+    pub(crate) are_right: bool,
 }
 
 // The number of the kind with this name, or 7.
@@ -137,17 +132,23 @@ fn is_end(word: &[u8]) -> bool {
     lines::same(word, b"inverted")
 }
 
-fn wrong(message: usize, line: &[u8], values: [i64; 25]) -> Values {
-    complain(message, line);
-    Values {
-        values,
+fn nothing_given() -> Given {
+    Given {
+        kind: 0,
+        values: [0; 25],
         next: 0,
         are_right: false,
     }
 }
 
+// Nothing is given. The message says why.
+fn wrong(message: usize, line: &[u8]) -> Given {
+    complain(message, line);
+    nothing_given()
+}
+
 // The values of a kind that the words of a line from word `from` on write.
-fn values_in(kind: usize, line: &[u8], from: usize) -> Values {
+fn values_in(kind: usize, line: &[u8], from: usize) -> Given {
     let mut values = first_values(kind);
     let mut i: usize = 0;
     while i < 25 {
@@ -159,32 +160,42 @@ fn values_in(kind: usize, line: &[u8], from: usize) -> Values {
         let number = field.number;
         let digits = field.digits;
         if 24 < number {
-            return wrong(NO_FIELD, line, values);
+            return wrong(NO_FIELD, line);
         }
         let Whole::Value(value) = lines::whole(&word[digits..]) else {
-            return wrong(NO_NUMBER, line, values);
+            return wrong(NO_NUMBER, line);
         };
         values[number] = value;
         i += 1;
     }
-    Values {
+    Given {
+        kind,
         values,
         next: std::num::wrapping_add_usize(from, i),
         are_right: true,
     }
 }
 
-// The record that the words from word i on write: its kind, and its values.
-pub(crate) fn record_in(line: &[u8], i: usize) -> Given {
+// What the words from word i on give: a kind, and values.
+pub(crate) fn given_at(line: &[u8], i: usize) -> Given {
     let kind = kind_named(lines::word(line, i));
     if 6 < kind {
-        complain(NO_KIND, line);
-        return Given::Nothing;
+        return wrong(NO_KIND, line);
     }
-    let read = values_in(kind, line, std::num::wrapping_add_usize(i, 1));
-    if !read.are_right {
-        return Given::Nothing;
+    values_in(kind, line, std::num::wrapping_add_usize(i, 1))
+}
+
+// What the words from word i to the line's end give, where it is of this kind.
+pub(crate) fn given_of_kind(line: &[u8], i: usize, kind: usize) -> Given {
+    let given = given_at(line, i);
+    if !given.are_right {
+        return given;
     }
-    let values = read.values;
-    Given::Asked(from_values::record_with(kind as u8, &values), read.next)
+    if !ends(line, given.next) {
+        return nothing_given();
+    }
+    if given.kind != kind {
+        return wrong(NO_KIND, line);
+    }
+    given
 }

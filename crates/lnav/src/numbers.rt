@@ -32,7 +32,6 @@ fn number(line: &[u8], i: usize) -> Numbers {
 
 // The numbers that words i and i + 1 write.
 fn two_numbers(line: &[u8], i: usize) -> Numbers {
-    let zz: usize = 7;
     let first = number(line, i);
     if !first.are_right {
         return first;

@@ -1,102 +1,101 @@
-// The questions to the collector, and those for a record that stands on the line.
+// The questions to the collector, and those about a record that stands on the line.
 use crate::commands::ACCURACY;
 use crate::commands::ALMANAC;
 use crate::commands::CLOCK;
 use crate::commands::SET;
 use crate::commands::TIME;
 use crate::commands::UTC;
-use crate::given::Given;
+use crate::commands::number_count;
+use crate::given::given_of_kind;
 use crate::given::is_kind;
-use crate::given::record_in;
-use crate::messages::NO_KIND;
-use crate::messages::complain;
 use crate::numbers::Numbers;
-use crate::numbers::ends;
 use crate::numbers::last_numbers;
 use crate::numbers::numbers_at;
 use collector::Collector;
+use collector::GivenUtc;
 use console::print_refusal;
-use from_values::GivenRecord;
-use record::Record;
-ghost use Prim.Native.Nat.{_<_};
+use from_values::GivenSubframe1;
+use from_values::GivenUtcPage;
+use orbit_set::GivenSet;
 
-// How many numbers follow a question's name.
-fn number_count(command: usize) -> usize {
+// The numbers of the kinds that questions take.
+const SUBFRAME1: usize = 1;
+
+const UTC_PAGE: usize = 5;
+
+fn print_of_set(command: usize, set: GivenSet) {
     match command {
-        UTC => 0,
-        TIME => 2,
-        _ => 1,
+        SET => commands_collector::print_set(set),
+        CLOCK => commands_collector::print_clock(set),
+        _ => commands_collector::print_accuracy(set),
+    }
+}
+
+fn print_of_page(command: usize, page: GivenUtc, n: Numbers) {
+    match command {
+        UTC => commands_collector::print_utc(page),
+        _ => commands_collector::print_time(page, n.first, n.second),
     }
 }
 
 // Asks the collector.
 fn ask_held(c: Collector, command: usize, n: Numbers) {
+    let number = n.first as usize;
     match command {
-        SET => commands_collector::set(c, n.first as usize),
-        ALMANAC => commands_collector::almanac(c, n.first as usize),
-        UTC => commands_collector::utc(c),
-        CLOCK => commands_collector::clock(c, n.first as usize),
-        ACCURACY => commands_collector::accuracy(c, n.first as usize),
-        _ => commands_collector::time(c, n.first, n.second),
+        ALMANAC => commands_collector::print_almanac(c.almanac(number)),
+        UTC | TIME => print_of_page(command, c.utc_page(), n),
+        _ => print_of_set(command, c.set(number)),
     }
 }
 
-// Asks of a record, where it has the kind that the question takes.
-fn ask_record(command: usize, line: &[u8], r: Record, n: Numbers) {
-    match r {
-        Record::Subframe1(s) => match command {
-            CLOCK => commands_collector::terms_of(s),
-            ACCURACY => commands_collector::accuracy_of(s),
-            _ => complain(NO_KIND, line),
-        },
-        Record::Utc(page) => match command {
-            TIME => commands_collector::time_by(page, n.first, n.second),
-            _ => complain(NO_KIND, line),
-        },
-        _ => complain(NO_KIND, line),
+// Asks for the clock terms or the accuracy of the subframe 1 that stands on the line.
+fn ask_of_subframe1(command: usize, line: &[u8]) {
+    let given = given_of_kind(line, 1, SUBFRAME1);
+    if !given.are_right {
+        return;
+    }
+    let values = given.values;
+    match from_values::subframe1_with(&values) {
+        GivenSubframe1::Given(s) => {
+            if command == CLOCK {
+                commands_collector::print_terms_of(s);
+            } else {
+                commands_collector::print_accuracy_of(s);
+            }
+        }
+        GivenSubframe1::Refused(refusal) => print_refusal(refusal),
     }
 }
 
-fn ask_given(command: usize, line: &[u8], g: GivenRecord, n: Numbers) {
-    match g {
-        GivenRecord::Given(r) => ask_record(command, line, r, n),
-        GivenRecord::Refused(refusal) => print_refusal(refusal),
-    }
-}
-
-// Asks of the record that the words from word i on write, after the question's numbers.
-fn ask_written(command: usize, line: &[u8], i: usize)
-    requires { ⌜ 0 < i ⌝ }
-{
-    let n = numbers_at(line, 1, i - 1);
+// Asks for the time by the UTC page that stands on the line, after week and second.
+fn ask_of_page(line: &[u8]) {
+    let n = numbers_at(line, 1, 2);
     if !n.are_right {
         return;
     }
-    match record_in(line, i) {
-        Given::Asked(g, next) => {
-            if ends(line, next) {
-                ask_given(command, line, g, n);
-            }
-        }
-        Given::Nothing => {}
+    let given = given_of_kind(line, 3, UTC_PAGE);
+    if !given.are_right {
+        return;
+    }
+    let values = given.values;
+    match from_values::utc_page_with(&values) {
+        GivenUtcPage::Given(page) => commands_collector::print_time_by(page, n.first, n.second),
+        GivenUtcPage::Refused(refusal) => print_refusal(refusal),
     }
 }
 
-// The word at which a record may stand, or 0 where the question takes none.
-fn record_place(command: usize) -> usize {
-    match command {
-        CLOCK => 1,
-        ACCURACY => 1,
-        TIME => 3,
-        _ => 0,
-    }
+fn is_of_subframe1(command: usize) -> bool {
+    command == CLOCK || command == ACCURACY
 }
 
 // Asks a question: of the record on the line, or else the collector.
 pub(crate) fn ask(c: Collector, command: usize, line: &[u8]) {
-    let i = record_place(command);
-    if 0 < i && is_kind(line, i) {
-        ask_written(command, line, i);
+    if is_of_subframe1(command) && is_kind(line, 1) {
+        ask_of_subframe1(command, line);
+        return;
+    }
+    if command == TIME && is_kind(line, 3) {
+        ask_of_page(line);
         return;
     }
     let n = last_numbers(line, 1, number_count(command));

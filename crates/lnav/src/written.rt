@@ -1,6 +1,8 @@
 // The block that was written last.
-use crate::given::Given;
-use crate::given::record_in;
+use crate::commands::FLIP;
+use crate::commands::INVERT;
+use crate::commands::WRITE;
+use crate::given::given_at;
 use crate::messages::NO_BIT;
 use crate::messages::NOT_CHANGED;
 use crate::messages::NOT_WRITTEN;
@@ -39,7 +41,12 @@ fn shown(bits: [u8; 302]) -> Block {
 }
 
 // Writes a record, and gives its block, or the old one where the writer refuses.
-fn write_record(r: Record, polarity: Polarity, old: Block) -> Block {
+fn write_record(r: Record, is_inverted: bool, old: Block) -> Block {
+    let polarity = if is_inverted {
+        Polarity::Inverted
+    } else {
+        Polarity::Upright
+    };
     let mut bits = [0u8; 302];
     match writer::write(r, polarity, &mut bits) {
         Checked::Accepted => shown(bits),
@@ -50,8 +57,27 @@ fn write_record(r: Record, polarity: Polarity, old: Block) -> Block {
     }
 }
 
-// The record and the polarity of a line are written, where no word is left.
-fn write_given(line: &[u8], g: GivenRecord, next: usize, old: Block) -> Block {
+// Writes the record of a kind that has these values.
+fn write_values(kind: usize, values: [i64; 25], is_inverted: bool, old: Block) -> Block {
+    if 6 < kind {
+        return old;
+    }
+    match from_values::record_with(kind as u8, &values) {
+        GivenRecord::Given(r) => write_record(r, is_inverted, old),
+        GivenRecord::Refused(refusal) => {
+            print_refusal(refusal);
+            old
+        }
+    }
+}
+
+// Writes the record of a line, where no word is left after it.
+fn write(line: &[u8], old: Block) -> Block {
+    let given = given_at(line, 1);
+    if !given.are_right {
+        return old;
+    }
+    let next = given.next;
     let is_inverted = lines::same(lines::word(line, next), b"inverted");
     let after = if is_inverted {
         std::num::wrapping_add_usize(next, 1)
@@ -61,26 +87,8 @@ fn write_given(line: &[u8], g: GivenRecord, next: usize, old: Block) -> Block {
     if !ends(line, after) {
         return old;
     }
-    let polarity = if is_inverted {
-        Polarity::Inverted
-    } else {
-        Polarity::Upright
-    };
-    match g {
-        GivenRecord::Given(r) => write_record(r, polarity, old),
-        GivenRecord::Refused(refusal) => {
-            print_refusal(refusal);
-            old
-        }
-    }
-}
-
-// Writes the record of a line.
-pub(crate) fn write(line: &[u8], old: Block) -> Block {
-    match record_in(line, 1) {
-        Given::Asked(g, next) => write_given(line, g, next, old),
-        Given::Nothing => old,
-    }
+    let values = given.values;
+    write_values(given.kind, values, is_inverted, old)
 }
 
 // The other bit. A byte above 1 is no bit, and stays.
@@ -115,7 +123,7 @@ fn can_change(block: Block, line: &[u8]) -> bool {
 }
 
 // The block with 0 and 1 swapped.
-pub(crate) fn invert(line: &[u8], block: Block) -> Block {
+fn invert(line: &[u8], block: Block) -> Block {
     if !ends(line, 2) {
         return block;
     }
@@ -127,7 +135,7 @@ pub(crate) fn invert(line: &[u8], block: Block) -> Block {
 }
 
 // The block with the bit flipped whose index is word 2.
-pub(crate) fn flip(line: &[u8], block: Block) -> Block {
+fn flip(line: &[u8], block: Block) -> Block {
     let index = last_numbers(line, 2, 1);
     if !index.are_right {
         return block;
@@ -143,4 +151,14 @@ pub(crate) fn flip(line: &[u8], block: Block) -> Block {
     let mut bits = block.bits;
     bits[i] = other_bit(bits[i]);
     shown(bits)
+}
+
+// The block after a command.
+pub(crate) fn written_after(block: Block, command: usize, line: &[u8]) -> Block {
+    match command {
+        WRITE => write(line, block),
+        INVERT => invert(line, block),
+        FLIP => flip(line, block),
+        _ => block,
+    }
 }

@@ -11,4 +11,4 @@ mul-print-number c = record { fits = lt-of-le-of-lt (mul-le-mul (c .before .if1 
 pub print-product-spec : {M : Type 1} → statement M
 print-product-spec =
     tie.close
-    (tie.spec (λ c. search needs) (λ c κs. search needs) (λ c. search needs) (λ c. search needs) (λ c κs. search needs) (λ c. search needs) mul-print-number (λ c κs. search needs) (λ c. search needs))
+    (tie.spec (λ c κs. search needs) (λ c. search needs) (λ c κs. search needs) (λ c. search needs) mul-print-number (λ c κs. search needs) (λ c. search needs))
