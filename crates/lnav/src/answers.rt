@@ -1,15 +1,15 @@
 // The commands that ask nothing of the collector and change nothing.
-use crate::commands::CHECK;
-use crate::commands::COMMENT;
-use crate::commands::FIND;
-use crate::commands::HELP;
-use crate::commands::LIST;
-use crate::commands::READ;
-use crate::commands::UNKNOWN;
-use crate::commands::WORD;
-use crate::commands::WORDS;
-use crate::commands::number_count;
-use crate::commands::print_help;
+use crate::help::CHECK;
+use crate::help::COMMENT;
+use crate::help::FIND;
+use crate::help::HELP;
+use crate::help::LIST;
+use crate::help::READ;
+use crate::help::UNKNOWN;
+use crate::help::WORD;
+use crate::help::WORDS;
+use crate::help::number_count;
+use crate::help::print_help;
 use crate::logs::put_log;
 use crate::messages::NO_COMMAND;
 use crate::messages::NO_WINDOW;
@@ -18,13 +18,20 @@ use crate::numbers::ends;
 use crate::numbers::last_numbers;
 use crate::written::Block;
 
+// Document 01's listing.
+fn list(log: &[u8]) {
+    let mut text = io::buffer();
+    let n = listing_text::list(log, &mut text);
+    console::print(&text[..n]);
+}
+
 fn answer_on(command: usize, log: &[u8], place: usize) {
     match command {
-        CHECK => commands_blocks::check(log, place),
-        FIND => commands_blocks::find(log, place),
-        LIST => commands_blocks::list(log),
-        READ => commands_blocks::read(log, place),
-        _ => commands_blocks::words(log, place),
+        CHECK => commands::check(log, place),
+        FIND => commands::find(log, place),
+        LIST => list(log),
+        READ => commands::read(log, place),
+        _ => commands::words(log, place),
     }
 }
 
@@ -61,7 +68,7 @@ fn word(line: &[u8]) {
         return;
     }
     if digits.len() == 32 && are_bits(digits) {
-        commands_blocks::word(digits);
+        commands::word(digits);
     } else {
         complain(NO_WINDOW, line);
     }

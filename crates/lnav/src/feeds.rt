@@ -1,6 +1,6 @@
 // Feeds, each with a line of answer.
-use crate::commands::FEED;
-use crate::commands::number_count;
+use crate::help::FEED;
+use crate::help::number_count;
 use crate::logs::put_log;
 use crate::numbers::last_numbers;
 use crate::written::Block;

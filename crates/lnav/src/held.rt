@@ -1,9 +1,9 @@
 // What is held through the run: the collector, and the commands that feed it, ask it and empty it.
-use crate::commands::FEED;
-use crate::commands::FEED_ALL;
-use crate::commands::FORGET;
-use crate::commands::is_question;
 use crate::feeds::feed_from_log;
+use crate::help::FEED;
+use crate::help::FEED_ALL;
+use crate::help::FORGET;
+use crate::help::is_question;
 use crate::numbers::ends;
 use crate::questions::ask;
 use crate::written::Block;

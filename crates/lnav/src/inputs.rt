@@ -1,5 +1,5 @@
 // The inputs that are open: a file that is run stands above the input that runs it.
-use crate::commands::RUN;
+use crate::help::RUN;
 use crate::messages::LINE_TOO_LONG;
 use crate::messages::NOT_READ;
 use crate::messages::TOO_MANY_FILES;

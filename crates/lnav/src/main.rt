@@ -1,10 +1,10 @@
 // The library for people: one command for each call. `lnav COMMAND WORD..` does one command; `lnav` alone does the lines of standard input, and
 // what was fed stays held until its end. `lnav help` lists the commands.
 mod answers;
-mod commands;
 mod feeds;
 mod given;
 mod held;
+mod help;
 mod inputs;
 mod logs;
 mod messages;
@@ -13,8 +13,8 @@ mod questions;
 mod written;
 
 use crate::answers::answer;
-use crate::commands::command_in;
 use crate::held::held_after;
+use crate::help::command_in;
 use crate::inputs::ARGUMENTS;
 use crate::inputs::Inputs;
 use crate::inputs::after_line;

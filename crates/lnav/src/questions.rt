@@ -1,13 +1,13 @@
 // The questions to the collector, and those about a record that stands on the line.
-use crate::commands::ACCURACY;
-use crate::commands::ALMANAC;
-use crate::commands::CLOCK;
-use crate::commands::SET;
-use crate::commands::TIME;
-use crate::commands::UTC;
-use crate::commands::number_count;
 use crate::given::given_of_kind;
 use crate::given::is_kind;
+use crate::help::ACCURACY;
+use crate::help::ALMANAC;
+use crate::help::CLOCK;
+use crate::help::SET;
+use crate::help::TIME;
+use crate::help::UTC;
+use crate::help::number_count;
 use crate::numbers::Numbers;
 use crate::numbers::last_numbers;
 use crate::numbers::numbers_at;
@@ -25,16 +25,16 @@ const UTC_PAGE: usize = 5;
 
 fn print_of_set(command: usize, set: GivenSet) {
     match command {
-        SET => commands_collector::print_set(set),
-        CLOCK => commands_collector::print_clock(set),
-        _ => commands_collector::print_accuracy(set),
+        SET => commands::print_set(set),
+        CLOCK => commands::print_clock(set),
+        _ => commands::print_accuracy(set),
     }
 }
 
 fn print_of_page(command: usize, page: GivenUtc, n: Numbers) {
     match command {
-        UTC => commands_collector::print_utc(page),
-        _ => commands_collector::print_time(page, n.first, n.second),
+        UTC => commands::print_utc(page),
+        _ => commands::print_time(page, n.first, n.second),
     }
 }
 
@@ -42,7 +42,7 @@ fn print_of_page(command: usize, page: GivenUtc, n: Numbers) {
 fn ask_held(c: Collector, command: usize, n: Numbers) {
     let number = n.first as usize;
     match command {
-        ALMANAC => commands_collector::print_almanac(c.almanac(number)),
+        ALMANAC => commands::print_almanac(c.almanac(number)),
         UTC | TIME => print_of_page(command, c.utc_page(), n),
         _ => print_of_set(command, c.set(number)),
     }
@@ -58,9 +58,9 @@ fn ask_of_subframe1(command: usize, line: &[u8]) {
     match from_values::subframe1_with(&values) {
         GivenSubframe1::Given(s) => {
             if command == CLOCK {
-                commands_collector::print_terms_of(s);
+                commands::print_terms_of(s);
             } else {
-                commands_collector::print_accuracy_of(s);
+                commands::print_accuracy_of(s);
             }
         }
         GivenSubframe1::Refused(refusal) => print_refusal(refusal),
@@ -79,7 +79,7 @@ fn ask_of_page(line: &[u8]) {
     }
     let values = given.values;
     match from_values::utc_page_with(&values) {
-        GivenUtcPage::Given(page) => commands_collector::print_time_by(page, n.first, n.second),
+        GivenUtcPage::Given(page) => commands::print_time_by(page, n.first, n.second),
         GivenUtcPage::Refused(refusal) => print_refusal(refusal),
     }
 }

@@ -1,8 +1,8 @@
 // The block that was written last.
-use crate::commands::FLIP;
-use crate::commands::INVERT;
-use crate::commands::WRITE;
 use crate::given::given_at;
+use crate::help::FLIP;
+use crate::help::INVERT;
+use crate::help::WRITE;
 use crate::messages::NO_BIT;
 use crate::messages::NOT_CHANGED;
 use crate::messages::NOT_WRITTEN;

@@ -1,8 +1,8 @@
 -- `print_words` is safe and ends. The measure is the number of words that are left.
 use Prim.Native.Nat.{_-_}
 use borrow.Author.Needs.{needs}
-use Rattle.commands_blocks.proofs.windows.print_words.Statement.{statement}
-use Rattle.commands_blocks.proofs.windows.print_words.Tie as tie
+use Rattle.commands.proofs.windows.print_words.Statement.{statement}
+use Rattle.commands.proofs.windows.print_words.Tie as tie
 
 abbrev Inv-loop : tie.InvT-loop
 Inv-loop log p k₀ k = Unit {0}

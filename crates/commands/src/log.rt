@@ -1,4 +1,4 @@
-// Block check, search, listing and reader.
+// Block check, search and reader.
 use block::Polarity;
 use console::end_line;
 use console::print;
@@ -46,13 +46,6 @@ pub fn find(log: &[u8], p: usize) {
         Found::Refused(r) => print_refusal(r),
     }
     print_part(search::find_part(log, p));
-}
-
-// Document 01's listing.
-pub fn list(log: &[u8]) {
-    let mut text = io::buffer();
-    let n = listing_text::list(log, &mut text);
-    print(&text[..n]);
 }
 
 // The kind and every field of the block at a place.

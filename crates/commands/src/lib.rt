@@ -1,7 +1,12 @@
-// The answers of the collector, and what is worked out of its records, as lines.
+// What the commands print: of logs, blocks and words; of the collector's answers; and of what is worked out of records.
+mod log;
 mod questions;
 mod times;
+mod windows;
 
+pub use log::check;
+pub use log::find;
+pub use log::read;
 pub use questions::print_almanac;
 pub use questions::print_set;
 pub use questions::print_utc;
@@ -11,3 +16,5 @@ pub use times::print_clock;
 pub use times::print_terms_of;
 pub use times::print_time;
 pub use times::print_time_by;
+pub use windows::word;
+pub use windows::words;

@@ -1,8 +1,8 @@
 -- `print_source` is safe and ends. The measure is the number of digits that are left.
 use Prim.Native.Nat.{_≤_, _-_}
 use borrow.Author.Needs.{needs}
-use Rattle.commands_blocks.proofs.windows.print_source.Statement.{statement}
-use Rattle.commands_blocks.proofs.windows.print_source.Tie as tie
+use Rattle.commands.proofs.windows.print_source.Statement.{statement}
+use Rattle.commands.proofs.windows.print_source.Tie as tie
 
 abbrev Inv-loop : tie.InvT-loop
 Inv-loop bits left₀ left = left ≤ 24
