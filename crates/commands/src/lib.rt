@@ -1,9 +1,11 @@
-// What the commands print: of logs, blocks and words; of the collector's answers; and of what is worked out of records.
+// What the commands print: of logs, blocks and words; of feeds and of the collector's answers; and of what is worked out of records.
+mod feeds;
 mod log;
 mod questions;
 mod times;
 mod windows;
 
+pub use feeds::print_fed;
 pub use log::check;
 pub use log::find;
 pub use log::read;

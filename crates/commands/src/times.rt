@@ -7,12 +7,12 @@ use collector::GivenUtc;
 use console::end_line;
 use console::print;
 use console::print_byte;
-use console::print_double;
 use console::print_refusal;
 use console::print_two_digits;
 use orbit_set::GivenSet;
 use record::Subframe1;
 use record::UtcPage;
+use record_text::print_double;
 use utc::GivenTime;
 use utc::TimeOfDay;
 

@@ -1,12 +1,9 @@
 // What programs print, and the lines, files and arguments that they read.
-mod decimals;
 mod files;
 mod input;
 mod output;
 mod refusals;
 
-pub use decimals::print_double;
-pub use decimals::print_scaled;
 pub use files::Input;
 pub use files::log_buffer;
 pub use files::read_file;

@@ -1,3 +1,2 @@
 -- Definitions that only private contracts cite.
 pub mod Side
-pub mod Digits

@@ -5,23 +5,14 @@ use crate::logs::put_log;
 use crate::numbers::last_numbers;
 use crate::written::Block;
 use collector::Collector;
-use console::print;
-use console::print_checked;
-use console::print_number;
 use console::print_refusal;
-use console::space;
 use search::Found;
 
-// Feeds the block at place p, prints `feed`, the place, the satellite and the answer, and gives the collector after it.
+// Feeds the block at place p, prints the answer, and gives the collector after it.
 fn feed(c: Collector, log: &[u8], p: usize, satellite: usize) -> Collector {
-    print(b"feed ");
-    print_number(p as u64);
-    space();
-    print_number(satellite as u64);
-    space();
     let fed = c.feed(log, p, satellite);
     let answer = fed.answer;
-    print_checked(answer);
+    commands::print_fed(p, satellite, answer);
     fed.collector
 }
 

@@ -4,7 +4,7 @@ use crate::messages::NO_KIND;
 use crate::messages::NO_NUMBER;
 use crate::messages::complain;
 use crate::numbers::ends;
-use lines::Whole;
+use digits::Whole;
 use record_text::COUNT;
 use record_text::FIELDS;
 use record_text::FIRST;
@@ -162,7 +162,7 @@ fn values_in(kind: usize, line: &[u8], from: usize) -> Given {
         if 24 < number {
             return wrong(NO_FIELD, line);
         }
-        let Whole::Value(value) = lines::whole(&word[digits..]) else {
+        let Whole::Value(value) = digits::whole(&word[digits..]) else {
             return wrong(NO_NUMBER, line);
         };
         values[number] = value;

@@ -2,7 +2,7 @@
 use crate::messages::NO_NUMBER;
 use crate::messages::TOO_MANY_WORDS;
 use crate::messages::complain;
-use lines::Number;
+use digits::Number;
 
 // Up to two numbers of a line, and whether they stand there.
 pub(crate) struct Numbers {
@@ -13,7 +13,7 @@ pub(crate) struct Numbers {
 
 // The number that word i writes. Where it writes none the message says so.
 fn number(line: &[u8], i: usize) -> Numbers {
-    match lines::natural(lines::word(line, i)) {
+    match digits::natural(lines::word(line, i)) {
         Number::Value(n) => Numbers {
             first: n,
             second: 0,

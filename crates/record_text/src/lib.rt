@@ -1,7 +1,9 @@
-// A record as text.
+// A record, and numbers with a scale, as text.
+mod decimals;
 mod print;
 mod table;
 
+pub use decimals::print_double;
 pub use print::print_fields;
 pub use print::print_record;
 pub use table::COUNT;

@@ -1,14 +1,14 @@
 // Prints a record: a line for each field, or all of it on one line.
+use crate::decimals::print_scaled;
 use crate::table::COUNT;
 use crate::table::FIELDS;
 use crate::table::FIRST;
 use crate::table::KINDS;
 use console::end_line;
 use console::print;
-use console::print_scaled;
 use console::print_signed;
 use console::space;
-use lines::Whole;
+use digits::Whole;
 use record::Record;
 
 // The line of field i of a kind.
@@ -24,7 +24,7 @@ fn field_line(kind: usize, i: usize) -> usize {
 
 // Prints the value of a number by its field's scale and unit, where it has them.
 fn print_value(field: &[u8], number: i64) {
-    let Whole::Value(scale) = lines::whole(lines::word(field, 1)) else {
+    let Whole::Value(scale) = digits::whole(lines::word(field, 1)) else {
         return;
     };
     space();

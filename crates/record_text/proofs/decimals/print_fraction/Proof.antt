@@ -1,8 +1,8 @@
 -- `print_fraction` is safe and ends. The measure is the number of decimals that are left.
 use Prim.Native.Nat.{_-_}
 use borrow.Author.Needs.{needs}
-use Rattle.console.proofs.decimals.print_fraction.Statement.{statement}
-use Rattle.console.proofs.decimals.print_fraction.Tie as tie
+use Rattle.record_text.proofs.decimals.print_fraction.Statement.{statement}
+use Rattle.record_text.proofs.decimals.print_fraction.Tie as tie
 
 abbrev Inv-loop : tie.InvT-loop
 Inv-loop n unit rest₀ left₀ rest left = Unit {0}

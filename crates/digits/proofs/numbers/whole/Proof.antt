@@ -7,11 +7,11 @@ use native.Mathlib.Omega.{arith}
 use borrow.Author.Needs.{needs}
 use lib.ListN.{length, drop, length-drop}
 use lib.Seq.{take-all}
-use Rattle.lines.specs.Numbers as Numbers
-use Rattle.lines.specs.internal.Digits.{withSign}
-use Rattle.lines.specs.laws.Numbers.{sign-natural, whole-empty, whole-minus, whole-plain}
-use Rattle.lines.proofs.numbers.whole.Statement.{statement}
-use Rattle.lines.proofs.numbers.whole.Tie as tie
+use Rattle.digits.specs.Numbers as Numbers
+use Rattle.digits.specs.internal.Digits.{withSign}
+use Rattle.digits.specs.laws.Numbers.{sign-natural, whole-empty, whole-minus, whole-plain}
+use Rattle.digits.proofs.numbers.whole.Statement.{statement}
+use Rattle.digits.proofs.numbers.whole.Tie as tie
 
 returns-2 : tie.Need-returns-2
 returns-2 c =

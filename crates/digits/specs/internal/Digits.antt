@@ -4,11 +4,11 @@ use mathlib.Core.List.{List}
 use Prim.Native.Nat.{ℕ, _+_, _*_, _^_}
 use lib.Dec.{ltb}
 use lib.ListN.{length}
-use Rattle.lines.specs.Numbers.{allDigits, value, negatedIf}
-use Rattle.lines.specs.declared.answers.Number.{Number}
-use Rattle.lines.specs.declared.answers.Number.the-variants as Number
-use Rattle.lines.specs.declared.answers.Whole.{Whole}
-use Rattle.lines.specs.declared.answers.Whole.the-variants as Whole
+use Rattle.digits.specs.Numbers.{allDigits, value, negatedIf}
+use Rattle.digits.specs.declared.answers.Number.{Number}
+use Rattle.digits.specs.declared.answers.Number.the-variants as Number
+use Rattle.digits.specs.declared.answers.Whole.{Whole}
+use Rattle.digits.specs.declared.answers.Whole.the-variants as Whole
 
 -- the number below 2^64 that a text of digits writes after digits that write n
 unfoldable pub continued : ℕ → List ℕ → Number

@@ -13,11 +13,11 @@ use lib.IntN.{ℤ}
 use lib.ListN.{length, getD, drop, drop-of-length-le}
 use lib.Seq.{drop-cons}
 use Rattle.finite.specs.laws.Booleans.{and-false, and-true}
-use Rattle.lines.specs.Numbers.{allDigits, value, writesBelow, natural, negatedIf, signed, whole}
-use Rattle.lines.specs.internal.Digits.{continued, following, withSign}
-use Rattle.lines.specs.declared.answers.Number.{Number}
-use Rattle.lines.specs.declared.answers.Number.the-variants as Number
-use Rattle.lines.specs.declared.answers.Whole.the-variants as Whole
+use Rattle.digits.specs.Numbers.{allDigits, value, writesBelow, natural, negatedIf, signed, whole}
+use Rattle.digits.specs.internal.Digits.{continued, following, withSign}
+use Rattle.digits.specs.declared.answers.Number.{Number}
+use Rattle.digits.specs.declared.answers.Number.the-variants as Number
+use Rattle.digits.specs.declared.answers.Whole.the-variants as Whole
 
 -- ---- digits after digits that write n
 

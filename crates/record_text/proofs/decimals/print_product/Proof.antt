@@ -2,8 +2,8 @@
 use native.Mathlib.Nat.{lt-of-le-of-lt, mul-le-mul}
 use borrow.Author.Needs.{needs}
 use lib.Dec.{lit<}
-use Rattle.console.proofs.decimals.print_product.Statement.{statement}
-use Rattle.console.proofs.decimals.print_product.Tie as tie
+use Rattle.record_text.proofs.decimals.print_product.Statement.{statement}
+use Rattle.record_text.proofs.decimals.print_product.Tie as tie
 
 mul-print-number : tie.Need-mul-print-number
 mul-print-number c = record { fits = lt-of-le-of-lt (mul-le-mul (c .before .if1 .left) (c .if2 .left)) (lit< tt) }

@@ -3,8 +3,8 @@ use crate::answers::Number;
 use crate::answers::Whole;
 ghost use mathlib.Core.Path.{_≡_};
 ghost use mathlib.Core.List.{[], _∷_};
-ghost use Rattle.lines.specs.Numbers as Numbers;
-ghost use Rattle.lines.specs.internal.Digits.{continued, withSign};
+ghost use Rattle.digits.specs.Numbers as Numbers;
+ghost use Rattle.digits.specs.internal.Digits.{continued, withSign};
 
 // The number that digits write, where the digits before the last write n. None where the last byte is no digit or the number is not below 2^64.
 fn with_digit(n: u64, byte: u8) -> Number

@@ -5,10 +5,10 @@ use Prim.Native.Nat.{ℕ, _+_, _-_, _*_, _^_}
 use lib.Dec.{leb, ltb, eqb}
 use lib.IntN.{ℤ, pos, negℤ}
 use lib.ListN.{length}
-use Rattle.lines.specs.declared.answers.Number.{Number}
-use Rattle.lines.specs.declared.answers.Number.the-variants as Number
-use Rattle.lines.specs.declared.answers.Whole.{Whole}
-use Rattle.lines.specs.declared.answers.Whole.the-variants as Whole
+use Rattle.digits.specs.declared.answers.Number.{Number}
+use Rattle.digits.specs.declared.answers.Number.the-variants as Number
+use Rattle.digits.specs.declared.answers.Whole.{Whole}
+use Rattle.digits.specs.declared.answers.Whole.the-variants as Whole
 
 -- whether a text is digits alone; the digits 0 to 9 are the bytes 48 to 57
 unfoldable pub allDigits : List ℕ → Bool

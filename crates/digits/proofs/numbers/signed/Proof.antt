@@ -8,10 +8,10 @@ use lib.IntN.{pos, negℤ, _-ℤ_, +ℤ-idl}
 use mir.Syntax.{w64}
 use mir.Val.{toZ}
 use Rattle.integers.specs.laws.Machine.{Small, natural, literal, difference, stored, fits-of}
-use Rattle.lines.specs.internal.Digits.{withSign}
-use Rattle.lines.specs.laws.Numbers.{sign-over, sign-below}
-use Rattle.lines.proofs.numbers.signed.Statement.{statement}
-use Rattle.lines.proofs.numbers.signed.Tie as tie
+use Rattle.digits.specs.internal.Digits.{withSign}
+use Rattle.digits.specs.laws.Numbers.{sign-over, sign-below}
+use Rattle.digits.proofs.numbers.signed.Statement.{statement}
+use Rattle.digits.proofs.numbers.signed.Tie as tie
 
 -- a number below 2^63 and its negative, in 64 bits
 module _ (c : tie.Else1) where

@@ -1,8 +1,8 @@
 // Numbers that are no whole ones, as exact decimals.
-use crate::output::print;
-use crate::output::print_byte;
-use crate::output::print_number;
-use crate::output::space;
+use console::print;
+use console::print_byte;
+use console::print_number;
+use console::space;
 use integers::absolute;
 use libc::STDOUT_FILENO;
 
@@ -70,7 +70,7 @@ fn print_product(n: u64, factor: u64) {
 }
 
 // Prints a number times a scale: a scale -k stands for 2^-k, and one above 0 for itself.
-pub fn print_scaled(z: i64, scale: i64) {
+pub(crate) fn print_scaled(z: i64, scale: i64) {
     print_sign(z < 0);
     if scale < 0 {
         print_binary(absolute(z), absolute(scale));

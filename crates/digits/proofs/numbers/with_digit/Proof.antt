@@ -4,9 +4,9 @@ use mathlib.Core.List.{[]}
 use Prim.Native.Nat.{_+_, _-_, _*_}
 use native.Mathlib.Omega.{arith}
 use borrow.Author.Needs.{needs}
-use Rattle.lines.specs.laws.Numbers.{continued-low, continued-high, continued-over, continued-digit, continued-end}
-use Rattle.lines.proofs.numbers.with_digit.Statement.{statement}
-use Rattle.lines.proofs.numbers.with_digit.Tie as tie
+use Rattle.digits.specs.laws.Numbers.{continued-low, continued-high, continued-over, continued-digit, continued-end}
+use Rattle.digits.proofs.numbers.with_digit.Statement.{statement}
+use Rattle.digits.proofs.numbers.with_digit.Tie as tie
 
 returns-3 : tie.Need-returns-3
 returns-3 c =

@@ -4,8 +4,8 @@ use mathlib.Core.Bool.{true, not, false≢true}
 use borrow.Author.Needs.{needs}
 use lib.Dec.{T}
 use lib.Ieee.{Float, nan, inf, fin, eq, isNan}
-use Rattle.console.proofs.decimals.pattern.Statement.{statement}
-use Rattle.console.proofs.decimals.pattern.Tie as tie
+use Rattle.record_text.proofs.decimals.pattern.Statement.{statement}
+use Rattle.record_text.proofs.decimals.pattern.Tie as tie
 
 is-number : (x : Float) → eq x x ≡ true → T (not (isNan x))
 unfolding eq isNan

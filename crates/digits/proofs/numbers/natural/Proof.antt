@@ -4,12 +4,12 @@ use Prim.Native.Nat.{_+_, _-_, _^_, _<_}
 use native.Mathlib.Omega.{arith}
 use borrow.Author.Needs.{needs}
 use lib.ListN.{length, drop}
-use Rattle.lines.specs.Numbers as Numbers
-use Rattle.lines.specs.internal.Digits.{continued, following}
-use Rattle.lines.specs.laws.Numbers.{natural-empty, continued-first, continued-at, continued-past, continued-below}
-use Rattle.lines.specs.declared.answers.Number.{Number}
-use Rattle.lines.proofs.numbers.natural.Statement.{statement}
-use Rattle.lines.proofs.numbers.natural.Tie as tie
+use Rattle.digits.specs.Numbers as Numbers
+use Rattle.digits.specs.internal.Digits.{continued, following}
+use Rattle.digits.specs.laws.Numbers.{natural-empty, continued-first, continued-at, continued-past, continued-below}
+use Rattle.digits.specs.declared.answers.Number.{Number}
+use Rattle.digits.proofs.numbers.natural.Statement.{statement}
+use Rattle.digits.proofs.numbers.natural.Tie as tie
 
 abbrev Inv-loop : tie.InvT-loop
 Inv-loop text value₀ i₀ value i = (value < 2 ^ 64) × (continued value (drop i text) ≡ Numbers.natural text)

@@ -1,8 +1,8 @@
 -- `print_reduced` is safe and ends. The measure is the number of binary places that are left.
 use Prim.Native.Nat.{_-_}
 use borrow.Author.Needs.{needs}
-use Rattle.console.proofs.decimals.print_reduced.Statement.{statement}
-use Rattle.console.proofs.decimals.print_reduced.Tie as tie
+use Rattle.record_text.proofs.decimals.print_reduced.Statement.{statement}
+use Rattle.record_text.proofs.decimals.print_reduced.Tie as tie
 
 abbrev Inv-loop : tie.InvT-loop
 Inv-loop n places odd₀ left₀ odd left = Unit {0}

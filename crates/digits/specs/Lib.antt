@@ -1,0 +1,4 @@
+-- The files of this folder: definitions; internal, definitions that only private contracts cite; laws about them.
+pub mod Numbers
+pub mod internal
+pub mod laws
