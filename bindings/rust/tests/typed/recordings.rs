@@ -51,18 +51,18 @@ fn named_values(record: &Record) -> Vec<String> {
         .collect()
 }
 
-// The first two words of each line that `lnav` is held to for the commands `read` of records.txt.
+// The first two words of each line that `lnav` is held to for the commands `read` of records.txt. Lines with tabs are listings.
 fn expected_fields(commands: &str) -> Vec<String> {
     let heading = commands.lines().find(|line| line.starts_with('#')).unwrap();
     let output = String::from_utf8(file("lnav/stdout")).unwrap();
     let lines = output.lines().skip_while(|line| *line != heading);
     lines
-        .filter(|line| !line.starts_with('#'))
+        .filter(|line| !line.starts_with('#') && !line.contains('\t'))
         .map(|line| line.split(' ').take(2).collect::<Vec<_>>().join(" "))
         .collect()
 }
 
-// Every field by its name: the records of the recordings are those that the program `lnav` is held to, most of them another decoder's.
+// Every field by its name: the records of the recordings and of their inverses are those that the program `lnav` is held to, most of them another decoder's.
 #[test]
 fn named_fields() {
     let names = [
@@ -92,7 +92,7 @@ fn named_fields() {
         round_trip(record);
         kinds[kind] += 1;
     }
-    assert_eq!(kinds, [35, 35, 35, 44, 1, 19]);
+    assert_eq!(kinds, [70, 70, 70, 88, 2, 38]);
 }
 
 #[test]
