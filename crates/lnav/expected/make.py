@@ -4,7 +4,7 @@
 #     stdin, stdout       the subjects in their order, and all that they are to print
 #     errors.*, calls.*   what cannot be done, with its messages, and calls with one command (errors.py)
 # A subject is a module here, with _ for a - of its name. It has a function build, which is given a subject.Subject, and
-# perhaps a function compare, for gpsdecode. Needs Python 3. It stops where an answer is not the one that a subject
+# perhaps a function compare, for gpsdecode. Needs Python 3.10. It stops where an answer is not the one that a subject
 # states by hand, and where docs/COURSE.md or README.md quotes what is not said (quotes.py).
 #     python3 make.py                makes these files
 #     python3 make.py --check        makes nothing; stops where a file is missing or is not what would be made, and
