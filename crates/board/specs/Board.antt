@@ -5,7 +5,7 @@ use lib.IntN.{ℤ, pos, negsuc}
 use lib.ListN.{getD}
 use Rattle.answer.specs.Answer.{Answer, accepted, refused}
 use Rattle.record.specs.declared.record.UtcPage.{UtcPage}
-use Rattle.utc.specs.declared.day.TimeOfDay.{TimeOfDay}
+use Rattle.day.specs.declared.TimeOfDay.{TimeOfDay}
 
 -- Runs of bits are numbers, their first bit highest. negsuc n is -1 - n.
 pub data Row : Type 0 where

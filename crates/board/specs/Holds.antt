@@ -8,14 +8,14 @@ use Rattle.bits.specs.Bits.{pack, unpack}
 use Rattle.finite.specs.Tabulate.{tabulate}
 use Rattle.answer.specs.Answer.{Answer, accepted, refused, number, detail, isAccepted}
 use Rattle.integers.specs.Whole.{eqZ}
-use Rattle.parity.specs.Encode.{sourceOf, encode, encodeEnding}
 use Rattle.parity.specs.Word.{Window, sourceBits, passes}
+use Rattle.encoder.specs.Encode.{sourceOf, encode, encodeEnding}
 use Rattle.record.specs.Source.{recordOf}
 use Rattle.record.specs.declared.record.Record.{Record}
 use Rattle.record.specs.declared.record.Record.the-variants as R
+use Rattle.day.specs.declared.TimeOfDay.{TimeOfDay}
+use Rattle.leap.specs.Leap.{leapWeek}
 use Rattle.utc.specs.Time as Time
-use Rattle.utc.specs.Leap.{leapWeek}
-use Rattle.utc.specs.declared.day.TimeOfDay.{TimeOfDay}
 use Rattle.board.specs.Board.{Row, word, fillers, tgd, leap, time, pageWith}
 
 -- the window of a pair and 30 received bits

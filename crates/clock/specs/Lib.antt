@@ -1,4 +1,3 @@
 -- The files of this folder: definitions; laws about them.
 pub mod Terms
-pub mod Accuracy
 pub mod laws

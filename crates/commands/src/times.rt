@@ -1,20 +1,20 @@
 // Clock terms, accuracy and time of day: of a record, and of what the collector gives.
+use accuracy::GivenAccuracy;
+use accuracy::UserRangeAccuracy;
 use clock::ClockTerms;
-use clock::GivenAccuracy;
 use clock::GivenTerms;
-use clock::UserRangeAccuracy;
 use collector::GivenUtc;
 use console::end_line;
 use console::print;
 use console::print_byte;
 use console::print_refusal;
 use console::print_two_digits;
+use day::TimeOfDay;
 use orbit_set::GivenSet;
 use record::Subframe1;
 use record::UtcPage;
 use record_text::print_double;
 use utc::GivenTime;
-use utc::TimeOfDay;
 
 // Prints a name, a double with its unit, and the double's bits as a line.
 fn print_term(name: &[u8], x: f64, unit: &[u8]) {
@@ -55,7 +55,7 @@ fn print_length(a: UserRangeAccuracy) {
 
 // The accuracy of a subframe 1.
 pub fn print_accuracy_of(r: Subframe1) {
-    match clock::accuracy(r) {
+    match accuracy::accuracy(r) {
         GivenAccuracy::Given(a) => print_length(a),
         GivenAccuracy::Refused(refusal) => print_refusal(refusal),
     }

@@ -4,7 +4,7 @@ use mathlib.Core.Option.{Option, Option·elim}
 use lib.Ieee.{Float, ofBits, binary64}
 use Rattle.answer.specs.Answer.{Answer, fromValue}
 use Rattle.clock.specs.declared.terms.ClockTerms.{ClockTerms}
-use Rattle.utc.specs.declared.day.TimeOfDay.{TimeOfDay}
+use Rattle.day.specs.declared.TimeOfDay.{TimeOfDay}
 use Rattle.told.specs.Told.{told}
 use Rattle.exports_clock.specs.declared.clock_questions.LnavTerms.{LnavTerms}
 use Rattle.exports_clock.specs.declared.clock_questions.LnavRangeAccuracy.{LnavRangeAccuracy}

@@ -1,17 +1,17 @@
 // The clock terms and the accuracy of a subframe 1.
+use accuracy::GivenAccuracy;
+use accuracy::UserRangeAccuracy;
 use answer::Checked;
 use answer::Refusal;
-use clock::GivenAccuracy;
 use clock::GivenTerms;
-use clock::UserRangeAccuracy;
 use from_values::GivenSubframe1;
 use told::LnavAnswer;
 use told::answer_of;
 ghost use mathlib.Core.Path.{_≡_};
 ghost use Rattle.from_values.specs.FromValues as FromValues;
 ghost use Rattle.answer.specs.Answer.{refusalAnswer, andThen};
-ghost use Rattle.clock.specs.Accuracy as Accuracy;
-ghost use Rattle.clock.specs.Accuracy.{givenAccuracyAnswer};
+ghost use Rattle.accuracy.specs.Accuracy as Accuracy;
+ghost use Rattle.accuracy.specs.Accuracy.{givenAccuracyAnswer};
 ghost use Rattle.clock.specs.Terms as Terms;
 ghost use Rattle.clock.specs.Terms.{givenTermsAnswer};
 ghost use Rattle.exports_clock.specs.Told.{termsTold, accuracyTold};
@@ -108,7 +108,7 @@ pub extern "C" fn lnav_accuracy(values: &[i64; 25]) -> LnavRangeAccuracy
     ensures { λ t. ⌜ t ≡ accuracyTold (andThen (FromValues.subframe1With (now (values .entry))) Accuracy.accuracy) ⌝ }
 {
     match from_values::subframe1_with(values) {
-        GivenSubframe1::Given(s) => told_accuracy(clock::accuracy(s)),
+        GivenSubframe1::Given(s) => told_accuracy(accuracy::accuracy(s)),
         GivenSubframe1::Refused(r) => refused_accuracy(r),
     }
 }

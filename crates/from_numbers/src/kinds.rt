@@ -12,21 +12,8 @@ use record::Subframe3;
 use record::UtcPage;
 ghost use mathlib.Core.Path.{_≡_};
 ghost use Rattle.layout.specs.Table.{valuesFrom};
-ghost use Rattle.record.specs.Fields.{headerFields, subframe1Fields, subframe2Fields, subframe3Fields, almanacFields, utcFields, otherFields, fieldsOf};
-ghost use Rattle.record.specs.Record.{headerOf, subframe1Of, subframe2Of, subframe3Of, almanacOf, utcOf, otherOf, recordWith};
-
-pub fn header_from(n: [u32; MOST_FIELDS]) -> Header
-    ensures { λ r. ⌜ r ≡ headerOf (valuesFrom headerFields 0 n) ⌝ }
-{
-    Header {
-        message: n[0],
-        reserved: n[1],
-        count: n[2],
-        flag18: n[3],
-        flag19: n[4],
-        subframe: n[5],
-    }
-}
+ghost use Rattle.record.specs.Fields.{subframe1Fields, subframe2Fields, subframe3Fields, almanacFields, utcFields, otherFields, fieldsOf};
+ghost use Rattle.record.specs.Record.{subframe1Of, subframe2Of, subframe3Of, almanacOf, utcOf, otherOf, recordWith};
 
 fn subframe1_from(header: Header, n: [u32; MOST_FIELDS]) -> Subframe1
     ensures { λ r. ⌜ r ≡ subframe1Of header (valuesFrom subframe1Fields 0 n) ⌝ }

@@ -2,5 +2,4 @@
 mod kinds;
 mod signed;
 
-pub use kinds::header_from;
 pub use kinds::record_from;

@@ -37,7 +37,7 @@ fn put_header(message: &mut [u8], at: usize, r: Record) -> usize
         message,
         at,
         record::header_widths(),
-        numbers::header_numbers(r),
+        header::header_numbers(r),
     )
 }
 
@@ -48,7 +48,7 @@ fn put_fields(message: &mut [u8], at: usize, r: Record) -> usize
     put_numbers(
         message,
         at,
-        record::widths(record::kind_of(r)),
+        record::widths(kind::kind_of(r)),
         numbers::field_numbers(r),
     )
 }

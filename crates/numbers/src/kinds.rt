@@ -2,7 +2,6 @@
 // width.
 use crate::unsigned::unsigned_of;
 use record::AlmanacPage;
-use record::Header;
 use record::MOST_FIELDS;
 use record::OtherPage;
 use record::Record;
@@ -12,49 +11,8 @@ use record::Subframe3;
 use record::UtcPage;
 ghost use mathlib.Core.Path.{_≡_};
 ghost use Rattle.layout.specs.Table as Table;
-ghost use Rattle.record.specs.Fields.{headerFields, subframe1Fields, subframe2Fields, subframe3Fields, almanacFields, utcFields, otherFields, fieldsOf};
-ghost use Rattle.record.specs.Record.{kindOf, header, headerValues, subframe1Values, subframe2Values, subframe3Values, almanacValues, utcValues, otherValues, fieldValues};
-
-fn header_of(r: Record) -> Header
-    ensures { λ h. ⌜ h ≡ header r ⌝ }
-{
-    match r {
-        Record::Subframe1(s) => s.header,
-        Record::Subframe2(s) => s.header,
-        Record::Subframe3(s) => s.header,
-        Record::Almanac(p) => p.header,
-        Record::Utc(p) => p.header,
-        Record::Other(p) => p.header,
-    }
-}
-
-// The numbers of the header.
-pub fn header_numbers(r: Record) -> [u32; MOST_FIELDS]
-    ensures { λ n. ⌜ n ≡ Table.numbers 19 headerFields (headerValues (header r)) ⌝ }
-{
-    let h = header_of(r);
-    [
-        h.message,
-        h.reserved,
-        h.count,
-        h.flag18,
-        h.flag19,
-        h.subframe,
-        0,
-        0,
-        0,
-        0,
-        0,
-        0,
-        0,
-        0,
-        0,
-        0,
-        0,
-        0,
-        0,
-    ]
-}
+ghost use Rattle.record.specs.Fields.{subframe1Fields, subframe2Fields, subframe3Fields, almanacFields, utcFields, otherFields, fieldsOf};
+ghost use Rattle.record.specs.Record.{kindOf, subframe1Values, subframe2Values, subframe3Values, almanacValues, utcValues, otherValues, fieldValues};
 
 fn subframe1_numbers(r: Subframe1) -> [u32; MOST_FIELDS]
     ensures { λ n. ⌜ n ≡ Table.numbers 19 subframe1Fields (subframe1Values r) ⌝ }

@@ -3,4 +3,3 @@ mod kinds;
 mod unsigned;
 
 pub use kinds::field_numbers;
-pub use kinds::header_numbers;

@@ -1,7 +1,8 @@
 -- Definitions. A received word with the two bits before it: its source bits, the six equations, the syndrome.
+use mathlib.Core.Path.{_≡_}
 use mathlib.Core.Bool.{Bool}
 use mathlib.Core.List.{List, [], _∷_}
-use Prim.Native.Nat.{ℕ, suc}
+use Prim.Native.Nat.{ℕ, suc, _≤_}
 use lib.Dec.{eqb}
 use Rattle.bits.specs.Bits.{_⊕_, Bits, pack}
 use Rattle.parity.specs.Table.{PairBit, P, Q, Equation, line}
@@ -21,6 +22,12 @@ receivedBit w i = w (suc i)
 -- source bit i, 1 to 24: the received bit exclusive-or Q
 unfoldable pub sourceBit : Window → ℕ → ℕ
 sourceBit w i = receivedBit w i ⊕ pairBit w Q
+
+-- w has the pair p, q and the source bits s
+pub record Carries (p q : ℕ) (s : Bits) (w : Window) : Type 0 where
+  pub pairP : w 0 ≡ p
+  pub pairQ : w 1 ≡ q
+  pub source : (i : ℕ) → 1 ≤ i → i ≤ 24 → sourceBit w i ≡ s i
 
 -- the 24 source bits as one number, the first highest
 unfoldable pub sourceBits : Window → ℕ

@@ -5,4 +5,3 @@ pub mod Equations
 pub mod Inverse
 pub mod Flips
 pub mod OneWord
-pub mod Fillers

@@ -1,12 +1,11 @@
 // The source bits of a received word.
 ghost use mathlib.Core.Path.{_≡_};
-ghost use Prim.Native.Nat.{_<_};
 ghost use Rattle.bits.specs.Bits.{_⊕_, pack, unpack};
 ghost use Rattle.parity.specs.Word.{sourceBits};
 
-// The 24 lowest digits of a number, each exclusive-or q. By Q received bits become source bits, and source bits received ones.
-pub(crate) fn exclusive_or_q(q: u32, bits: u32) -> u32
-    ensures { λ r. ⌜ (r ≡ pack 24 (λ i. unpack 24 bits i ⊕ q)) × (r < 0x1000000) ⌝ }
+// The 24 lowest digits of a number, each exclusive-or q.
+fn exclusive_or_q(q: u32, bits: u32) -> u32
+    ensures { λ r. ⌜ r ≡ pack 24 (λ i. unpack 24 bits i ⊕ q) ⌝ }
 {
     if q % 2 == 1 {
         return 0xffffff - bits % 0x1000000;

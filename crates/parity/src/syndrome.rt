@@ -35,7 +35,7 @@ fn equation_failure(window: u32, k: usize) -> u32
 }
 
 // The syndrome of a packed window.
-pub(crate) fn syndrome_of(window: u32) -> u32
+pub fn syndrome_of(window: u32) -> u32
     ensures { λ r. ⌜ r ≡ syndrome (unpack 32 window) ⌝ }
 {
     let mut syndrome: u32 = 0;

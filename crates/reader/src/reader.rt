@@ -21,7 +21,7 @@ pub enum Reading {
 fn header_at(log: &[u8], p: usize) -> Header
     ensures { λ h. ⌜ h ≡ headerIn (source (bitsAt (now (log .entry)) p)) ⌝ }
 {
-    from_numbers::header_from(numbers_at(log, p, 8, record::header_widths()))
+    header::header_from(numbers_at(log, p, 8, record::header_widths()))
 }
 
 fn record_at(log: &[u8], p: usize) -> Record
@@ -30,7 +30,7 @@ fn record_at(log: &[u8], p: usize) -> Record
     let header = header_at(log, p);
     let data_id = number_at(log, p, 48, 2);
     let id = number_at(log, p, 50, 6);
-    let kind = record::kind_for(header.subframe, data_id, id);
+    let kind = kind::kind_for(header.subframe, data_id, id);
     from_numbers::record_from(kind, header, numbers_at(log, p, 48, record::widths(kind)))
 }
 

@@ -4,9 +4,6 @@ mod record;
 mod tables;
 
 pub use kind::Kind;
-pub use kind::kind_for;
-pub use kind::kind_of;
-pub use kind::of_its_kind;
 pub use record::AlmanacPage;
 pub use record::Header;
 pub use record::OtherPage;

@@ -1,6 +1,6 @@
 -- Definitions. The time of day in UTC at a GPS week and second (document 01, 'GPS second to UTC', and numbers 14 to 16 of its table).
 use mathlib.Core.Bool.{Bool, not, cond, _&&_}
-use Prim.Native.Nat.{ℕ, _+_, _*_, _/_, _%_, _<_}
+use Prim.Native.Nat.{ℕ, _+_, _*_}
 use lib.Dec.{leb}
 use lib.IntN.{ℤ, pos, negsuc, _-ℤ_}
 use lib.Signed.{ltZ}
@@ -9,8 +9,9 @@ use Rattle.integers.specs.Whole.{eqZ, modulo}
 use Rattle.record.specs.Writable.{writable}
 use Rattle.record.specs.declared.record.UtcPage.{UtcPage}
 use Rattle.record.specs.declared.record.Record.the-variants as R
-use Rattle.utc.specs.Leap.{weekDifference, leapMoment}
-use Rattle.utc.specs.declared.day.TimeOfDay.{TimeOfDay}
+use Rattle.leap.specs.Leap.{weekDifference, leapMoment}
+use Rattle.day.specs.Day.{timeAt}
+use Rattle.day.specs.declared.TimeOfDay.{TimeOfDay}
 use Rattle.utc.specs.declared.time.GivenTime.{GivenTime}
 use Rattle.utc.specs.declared.time.GivenTime.the-variants.{Given, Refused}
 
@@ -30,16 +31,6 @@ offsetAt page week second = cond (ltZ (gpsTime week second) (leapMoment page wee
 -- GPS time less the offset, modulo a day
 unfoldable pub secondOfDay : UtcPage → ℕ → ℕ → ℕ
 secondOfDay page week second = modulo (gpsTime week second -ℤ offsetAt page week second) 86400
-
--- a second of the day as hour, minute and second
-unfoldable pub timeAt : ℕ → TimeOfDay
-timeAt s = record { hour = s / 3600; minute = s / 60 % 60; second = s % 60 }
-
--- hours below 24, minutes and seconds below 60
-pub record IsTime (t : TimeOfDay) : Type 0 where
-  pub hour-lt : t .hour < 24
-  pub minute-lt : t .minute < 60
-  pub second-lt : t .second < 60
 
 -- the conditions of numbers 14 and 15 that let a question pass: a full week and a second of the week, and a day of the week
 unfoldable pub isGpsSecond : ℕ → ℕ → Bool

@@ -2,6 +2,4 @@
 pub mod Ways
 pub mod Answers
 pub mod Pages
-pub mod Days
-pub mod LeapWeeks
 pub mod Time

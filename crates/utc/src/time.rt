@@ -1,15 +1,14 @@
 // The time of day in UTC at a GPS week and second.
-use crate::day::TimeOfDay;
-use crate::day::modulo_day;
-use crate::day::time_at;
-use crate::leap::leap_moment;
-use crate::leap::week_difference;
 use answer::Refusal;
 use answer::refusal_by;
+use day::TimeOfDay;
+use day::modulo_day;
+use day::time_at;
+use leap::leap_moment;
+use leap::week_difference;
 use record::Record;
 use record::UtcPage;
 ghost use mathlib.Core.Path.{_≡_};
-ghost use Prim.Native.Nat.{_<_, _≤_};
 ghost use Rattle.utc.specs.Time as Time;
 ghost use Rattle.utc.specs.Time.{givenTimeAnswer, isGpsSecond, isDay, gpsTime, offsetAt, secondOfDay};
 
@@ -41,7 +40,6 @@ fn is_day(dn: u32) -> bool
 
 // GPS time, in seconds from the start of week 0.
 fn gps_time(week: u32, second: u32) -> i64
-    requires { ⌜ (week ≤ 8191) × (second ≤ 604799) ⌝ }
     ensures { λ r. ⌜ r ≡ gpsTime week second ⌝ }
 {
     ((week as u64) * 604800 + (second as u64)) as i64
@@ -49,7 +47,6 @@ fn gps_time(week: u32, second: u32) -> i64
 
 // dtLS before the leap moment, dtLSF from it on.
 fn offset_at(page: UtcPage, week: u32, second: u32) -> i32
-    requires { ⌜ (page .wnlsf < 256) × (page .dn < 256) × (week ≤ 8191) × (second ≤ 604799) ⌝ }
     ensures { λ r. ⌜ r ≡ offsetAt page week second ⌝ }
 {
     if gps_time(week, second) < leap_moment(page, week) {
@@ -61,7 +58,6 @@ fn offset_at(page: UtcPage, week: u32, second: u32) -> i32
 
 // The second of the day in UTC.
 fn second_of_day(page: UtcPage, week: u32, second: u32) -> u32
-    requires { ⌜ (page .wnlsf < 256) × (page .dn < 256) × (week ≤ 8191) × (second ≤ 604799) ⌝ }
     ensures { λ r. ⌜ r ≡ secondOfDay page week second ⌝ }
 {
     let offset = offset_at(page, week, second);

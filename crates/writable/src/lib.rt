@@ -1,6 +1,6 @@
 // Which records the writer takes: number 11 refuses all others.
+use header::header_numbers;
 use numbers::field_numbers;
-use numbers::header_numbers;
 use record::MOST_FIELDS;
 use record::Record;
 ghost use mathlib.Core.Path.{_≡_};
@@ -49,7 +49,7 @@ fn header_within(r: Record) -> bool
 fn fields_within(r: Record) -> bool
     ensures { λ t. ⌜ t ≡ allWithin (fieldsOf (kindOf r)) (fieldValues r) ⌝ }
 {
-    all_fit(record::widths(record::kind_of(r)), field_numbers(r))
+    all_fit(record::widths(kind::kind_of(r)), field_numbers(r))
 }
 
 // Whether the writer takes the record.
@@ -66,5 +66,5 @@ pub fn writable(r: Record) -> bool
     if LARGEST_COUNT < header_numbers(r)[2] {
         return false;
     }
-    record::of_its_kind(r)
+    kind::of_its_kind(r)
 }

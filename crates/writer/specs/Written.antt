@@ -7,7 +7,7 @@ use lib.ListN.{length}
 use Rattle.message_bits.specs.Message.{messageOf}
 use Rattle.bits.specs.Bits.{Bits, bitsAt}
 use Rattle.parity.specs.Word.{Window}
-use Rattle.parity.specs.Encode.{encode, encodeEnding}
+use Rattle.encoder.specs.Encode.{encode, encodeEnding}
 use Rattle.block.specs.Block.{Block}
 use Rattle.block_check.specs.Compare.{Equal}
 use Rattle.block.specs.Polarity.{startBit}

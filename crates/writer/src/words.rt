@@ -23,9 +23,9 @@ fn word_after(message: &[u8; 240], a: u32, k: usize, before: u32) -> u32
 {
     let source = parity::packed_window(message, 24 * (k - 1)) / 0x100;
     if has_fillers(k) {
-        return parity::encode_ending(before / 2 % 2, before % 2, source, a, a);
+        return encoder::encode_ending(before / 2 % 2, before % 2, source, a, a);
     }
-    parity::encode_word(before / 2 % 2, before % 2, source)
+    encoder::encode_word(before / 2 % 2, before % 2, source)
 }
 
 // Writes the block that carries a message from the start pair a, a on, and gives the index after it.

@@ -9,8 +9,7 @@ use native.Mathlib.Decide.{ℕ-discrete}
 use native.Mathlib.Omega.{arith}
 use Rattle.bits.specs.Bits.{_⊕_, AreBits, bitsAt, inverse}
 use Rattle.parity.specs.Word.{sourceBit}
-use Rattle.parity.specs.laws.OneWord.{one-word}
-use Rattle.parity.specs.laws.Fillers.{by-fillers, same-fillers}
+use Rattle.parity.specs.laws.OneWord.{one-word, by-fillers, same-fillers}
 use Rattle.block.specs.Block.{Block, window, source}
 use Rattle.block.specs.laws.Windows.{by-windows}
 use Rattle.block_check.specs.Check.{endsAlike}

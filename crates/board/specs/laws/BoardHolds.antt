@@ -12,13 +12,14 @@ use Rattle.layout.specs.Field.{signed, isSigned, readField, within}
 use Rattle.layout.specs.Layout.{decode, allWithin}
 use Rattle.parity.specs.Table.{table, line}
 use Rattle.parity.specs.Word.{sourceBit, sourceBits, sourceSum, parityBit, failure, syndrome, passes}
-use Rattle.parity.specs.Encode.{sourceOf, dataBits, encode, withFillers, filler23, filler24, encodeEnding}
+use Rattle.encoder.specs.Encode.{sourceOf, dataBits, encode, withFillers, filler23, filler24, encodeEnding}
 use Rattle.record.specs.Kind.{isUtc, kindFor}
 use Rattle.record.specs.Writable.{withinFields, ofItsKind, writable}
 use Rattle.record.specs.Source.{headerIn, kindIn, recordOf}
-use Rattle.utc.specs.Leap.{weekDifference, leapWeek, leapMoment}
+use Rattle.day.specs.Day.{timeAt}
+use Rattle.leap.specs.Leap.{weekDifference, leapWeek, leapMoment}
 use Rattle.utc.specs.Time as Time
-use Rattle.utc.specs.Time.{gpsTime, offsetAt, secondOfDay, timeAt, isGpsSecond, isDay}
+use Rattle.utc.specs.Time.{gpsTime, offsetAt, secondOfDay, isGpsSecond, isDay}
 use Rattle.board.specs.Board.{board, rowAt}
 use Rattle.board.specs.Holds.{windowOf, sourceWith, hasTgd, hasLeapWeek, givesTime, holds}
 

@@ -13,7 +13,7 @@ pairBit-linear : (u v : Window) (p : PairBit) → pairBit (xor u v) p ≡ pairBi
 pairBit-linear u v P = refl
 pairBit-linear u v Q = refl
 
-sourceBit-linear : (u v : Window) (i : ℕ) → sourceBit (xor u v) i ≡ sourceBit u i ⊕ sourceBit v i
+pub sourceBit-linear : (u v : Window) (i : ℕ) → sourceBit (xor u v) i ≡ sourceBit u i ⊕ sourceBit v i
 unfolding sourceBit
 sourceBit-linear u v i = interchange (receivedBit u i) (receivedBit v i) _ _
 

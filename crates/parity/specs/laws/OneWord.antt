@@ -1,23 +1,22 @@
--- Laws. For a pair and 24 source bits exactly one word passes: the encoded one. With the pair inverted it is the inverse.
-use mathlib.Core.Path.{_≡_, refl, sym, ap, ap₂, _∙_, subst}
-use mathlib.Core.Bool.{true}
+-- Laws. A passing word is decided by its pair and its 24 source bits, and its fillers by the pair, the other source bits and the ending.
+use mathlib.Core.Path.{_≡_, sym, ap, subst, _∙_}
+use mathlib.Core.Bool.{true, cond}
 use Prim.Native.Nat.{ℕ, zero, suc, _+_, _-_, _%_, _<_, _≤_}
+use native.Mathlib.Decide.{ℕ-discrete, decLt}
 use native.Mathlib.Omega.{arith}
-use native.Mathlib.Decide.{decLt}
-use borrow.Author.Tests.{lt-ltb, le-ltb}
-use lib.Dec.{lit<}
-use Rattle.bits.specs.Bits.{_⊕_, Bits, AreBits, inverse}
-use Rattle.parity.specs.Table.{line}
-use Rattle.parity.specs.Word.{Window, sourceBit, parityBit, failure, passes}
-use Rattle.parity.specs.Encode.{AreSource, Carries, dataBits, encode}
+use borrow.Author.Tests.{ne-eqb}
+use lib.Dec.{eqb, lit<}
+use Rattle.bits.specs.Bits.{_⊕_, AreBits, xor}
+use Rattle.finite.specs.Every.{everyBelow}
+use Rattle.finite.specs.laws.Every.{equal-below₂}
+use Rattle.parity.specs.Table.{table, line}
+use Rattle.parity.specs.Word.{Window, sourceBit, sourceSum, parityBit, passes, Carries}
+use Rattle.parity.specs.laws.Linear.{sourceBit-linear, parityBit-linear}
 use Rattle.parity.specs.laws.Local.{Agree, line-bit, parityBit-agree}
-use Rattle.parity.specs.laws.Equations.{syndrome-zero, passes-syndrome, equations}
-use Rattle.parity.specs.laws.Inverse.{passes-inverse, sourceBit-inverse}
-
--- ---- the parts of the encoded word
+use Rattle.parity.specs.laws.Equations.{passes-syndrome, equations}
 
 -- the pair and bits 1 to 24 stand at places 0 to 25, the parity bits at 26 to 31
-by-parts : (A : ℕ → Type 0) → ((j : ℕ) → j < 26 → A j) → ((k : ℕ) → k < 6 → A (26 + k)) → (j : ℕ) → j < 32 → A j
+pub by-parts : (A : ℕ → Type 0) → ((j : ℕ) → j < 26 → A j) → ((k : ℕ) → k < 6 → A (26 + k)) → (j : ℕ) → j < 32 → A j
 by-parts A data-part parity-part j h = go (decLt j 26)
   where
     go : Dec (j < 26) → A j
@@ -26,123 +25,84 @@ by-parts A data-part parity-part j h = go (decLt j 26)
         let at : 26 + (j - 26) ≡ j = omega arith in
         subst A at (parity-part (j - 26) (omega arith))
 
-module _ (p q : ℕ) (s : Bits) where
-  pub encode-data : (j : ℕ) → j < 26 → encode p q s j ≡ dataBits p q s j
-  unfolding encode
-  encode-data j h = rw (lt-ltb j 26 h)
-
-  pub encode-parity : (k : ℕ) → encode p q s (26 + k) ≡ parityBit (dataBits p q s) (line k)
-  unfolding encode
-  encode-parity k = rw (le-ltb (26 + k) 26 (omega arith)) (ap (λ (n : ℕ). parityBit (dataBits p q s) (line n)) (omega arith))
-
-  encode-agree : Agree (encode p q s) (dataBits p q s)
-  unfolding sourceBit
-  encode-agree =
-      record {
-        pairP = ap (λ (x : ℕ). x % 2) (encode-data 0 (lit< tt));
-        pairQ = ap (λ (x : ℕ). x % 2) (encode-data 1 (lit< tt));
-        source = λ i l h. ap₂ _⊕_ (encode-data (suc i) (omega arith)) (encode-data 1 (lit< tt));
-      }
-
-  -- ---- it passes
-
-  pub encode-passes : passes (encode p q s) ≡ true
-  unfolding failure
-  encode-passes = passes-syndrome (encode p q s) .1 (syndrome-zero (encode p q s) .1 none)
-    where
-      twice : (x : ℕ) → x ⊕ x ≡ 0
-      twice x = omega arith
-
-      none : (k : ℕ) → k < 6 → failure (encode p q s) (line k) ≡ 0
-      none k h =
-          ap₂ _⊕_ (ap (encode p q s) (ap suc (line-bit k h) ∙ omega arith) ∙ encode-parity k)
-          (parityBit-agree (encode p q s) (dataBits p q s) encode-agree k h)
-          ∙ twice (parityBit (dataBits p q s) (line k))
-
--- only source bits 1 to 24 count
-pub encode-same : (p q : ℕ) (s t : Bits) → ((i : ℕ) → 1 ≤ i → i ≤ 24 → s i ≡ t i) → (j : ℕ) → j < 32 → encode p q s j ≡ encode p q t j
-unfolding dataBits sourceBit
-encode-same p q s t same =
-    by-parts (λ j. encode p q s j ≡ encode p q t j) (λ j l. encode-data p q s j l ∙ data-same j l ∙ sym (encode-data p q t j l))
-    (λ k h. encode-parity p q s k ∙ parityBit-agree (dataBits p q s) (dataBits p q t) agree k h ∙ sym (encode-parity p q t k))
-  where
-    data-same : (j : ℕ) → j < 26 → dataBits p q s j ≡ dataBits p q t j
-    data-same zero l = refl
-    data-same (suc zero) l = refl
-    data-same (suc (suc i)) l = ap (λ (x : ℕ). x ⊕ q) (same (suc i) (omega arith) (omega arith))
-
-    agree : Agree (dataBits p q s) (dataBits p q t)
-    agree = record { pairP = refl; pairQ = refl; source = λ i l h. ap (λ (x : ℕ). x ⊕ q) (data-same (suc i) (omega arith)) }
-
-module _ (p q : ℕ) (s : Bits) (bp : p < 2) (bq : q < 2) (bs : AreSource s) where
-  -- ---- it is a word of bits that has the pair and the source bits
-
-  pub encode-bits : AreBits 32 (encode p q s)
-  unfolding dataBits parityBit
-  encode-bits =
-      by-parts (λ j. encode p q s j < 2) (λ j l. rw (encode-data p q s j l) (data-bit j)) (λ k l. rw (encode-parity p q s k) (omega arith))
-    where
-      data-bit : (j : ℕ) → dataBits p q s j < 2
-      data-bit zero = bp
-      data-bit (suc zero) = bq
-      data-bit (suc (suc i)) = omega arith
-
-  pub encode-carries : Carries p q s (encode p q s)
-  unfolding sourceBit dataBits
-  encode-carries = record { pairP = encode-data p q s 0 (lit< tt); pairQ = encode-data p q s 1 (lit< tt); source = back }
-    where
-      undone : (x y : ℕ) → x < 2 → (x ⊕ y) ⊕ y ≡ x
-      undone x y h = omega arith
-
-      back : (i : ℕ) → 1 ≤ i → i ≤ 24 → sourceBit (encode p q s) i ≡ s i
-      back zero l h = absurd (omega arith)
-      back (suc i) l h =
-          ap₂ _⊕_ (encode-data p q s (suc (suc i)) (omega arith)) (encode-data p q s 1 (lit< tt)) ∙ undone (s (suc i)) q (bs (suc i) l h)
-
-  -- ---- and no other passes
-
-  pub encode-only : (w : Window) → AreBits 32 w → passes w ≡ true → Carries p q s w → (j : ℕ) → j < 32 → w j ≡ encode p q s j
-  unfolding sourceBit dataBits
-  encode-only w bits t has = by-parts (λ j. w j ≡ encode p q s j) (λ j l. data-same j l ∙ sym (encode-data p q s j l)) parity-same
-    where
-      agree : Agree w (dataBits p q s)
-      agree =
-          record {
-            pairP = ap (λ (x : ℕ). x % 2) (has .pairP);
-            pairQ = ap (λ (x : ℕ). x % 2) (has .pairQ);
-            source = λ i l m. has .source i l m ∙ sym (encode-carries .source i l m) ∙ encode-agree p q s .source i l m;
-          }
-
-      data-same : (j : ℕ) → j < 26 → w j ≡ dataBits p q s j
-      data-same zero l = has .pairP
-      data-same (suc zero) l = has .pairQ
-      data-same (suc (suc i)) l = omega (arith, has .source (suc i) (omega arith) (omega arith), has .pairQ, bits (suc (suc i)) (omega arith))
-
-      parity-same : (k : ℕ) → k < 6 → w (26 + k) ≡ encode p q s (26 + k)
-      parity-same k l =
-          ap w (omega (arith, line-bit k l)) ∙ equations w bits .0 (passes-syndrome w .0 t) k l ∙ parityBit-agree w (dataBits p q s) agree k l
-          ∙ sym (encode-parity p q s k)
+-- a parity bit of a passing word is the one that its line asks
+asked : (w : Window) → AreBits 32 w → passes w ≡ true → (k : ℕ) → k < 6 → w (26 + k) ≡ parityBit w (line k)
+asked w bits t k h = ap w (omega (arith, line-bit k h)) ∙ equations w bits .0 (passes-syndrome w .0 t) k h
 
 -- two passing words with the same pair and the same source bits are the same word
 pub one-word : (u v : Window) → AreBits 32 u → AreBits 32 v → passes u ≡ true → passes v ≡ true → Carries (v 0) (v 1) (sourceBit v) u
     → (j : ℕ) → j < 32 → u j ≡ v j
 unfolding sourceBit
-one-word u v bu bv tu tv has j h = is u bu tu has j h ∙ sym (is v bv tv (record { pairP = refl; pairQ = refl; source = λ i l m. refl }) j h)
+one-word u v bu bv tu tv has = by-parts (λ j. u j ≡ v j) data-same parity-same
   where
-    is : (w : Window) → AreBits 32 w → passes w ≡ true → Carries (v 0) (v 1) (sourceBit v) w → (j : ℕ) → j < 32 → w j ≡ encode (v 0) (v 1) (sourceBit v) j
-    is = encode-only (v 0) (v 1) (sourceBit v) (bv 0 (lit< tt)) (bv 1 (lit< tt)) (λ i l m. omega arith)
+    agree : Agree u v
+    agree = record { pairP = ap (λ (x : ℕ). x % 2) (has .pairP); pairQ = ap (λ (x : ℕ). x % 2) (has .pairQ); source = has .source }
 
--- ---- the inverse
+    data-same : (j : ℕ) → j < 26 → u j ≡ v j
+    data-same zero l = has .pairP
+    data-same (suc zero) l = has .pairQ
+    data-same (suc (suc i)) l =
+        omega (arith, has .source (suc i) (omega arith) (omega arith), has .pairQ, bu (suc (suc i)) (omega arith), bv (suc (suc i)) (omega arith))
 
-pub encode-inverse : (p q : ℕ) (s : Bits) → p < 2 → q < 2 → AreSource s → (j : ℕ) → j < 32 → inverse (encode p q s) j ≡ encode (p ⊕ 1) (q ⊕ 1) s j
-encode-inverse p q s bp bq bs =
-    encode-only (p ⊕ 1) (q ⊕ 1) s (omega arith) (omega arith) bs (inverse (encode p q s)) (λ j h. omega arith)
-    (passes-inverse (encode p q s) ∙ encode-passes p q s)
-    (record {
-      pairP = ap (λ (x : ℕ). x ⊕ 1) (has .pairP);
-      pairQ = ap (λ (x : ℕ). x ⊕ 1) (has .pairQ);
-      source = λ i l h. sourceBit-inverse (encode p q s) i ∙ has .source i l h;
-    })
+    parity-same : (k : ℕ) → k < 6 → u (26 + k) ≡ v (26 + k)
+    parity-same k h = asked u bu tu k h ∙ parityBit-agree u v agree k h ∙ sym (asked v bv tv k h)
+
+-- ---- the fillers, source bits 23 and 24
+
+-- what holds at source bits 1 to 22 and at both fillers holds at all 24
+pub by-fillers : (A : ℕ → Type 0) → ((i : ℕ) → 1 ≤ i → i ≤ 22 → A i) → A 23 → A 24 → (i : ℕ) → 1 ≤ i → i ≤ 24 → A i
+by-fillers A before first second i l h = go (decLt 22 i) (ℕ-discrete i 23)
   where
-    has : Carries p q s (encode p q s)
-    has = encode-carries p q s bp bq bs
+    go : Dec (22 < i) → Dec (i ≡ 23) → A i
+    go (no u) d = before i l (omega arith)
+    go (yes u) (yes e) = subst A (sym e) first
+    go (yes u) (no v) = let last : 24 ≡ i = omega arith in subst A last second
+
+-- the window of two fillers and zeros
+unfoldable pub fillersAlone : ℕ → ℕ → Window
+fillersAlone x y zero = 0
+fillersAlone x y (suc i) = cond (eqb i 23) x (cond (eqb i 24) y 0)
+
+-- bit 29 has y, and bit 30 both
+pub alone-29 : (x y : ℕ) → x < 2 → y < 2 → parityBit (fillersAlone x y) (line 4) ≡ y
+unfolding everyBelow fillersAlone parityBit sourceSum sourceBit line table
+alone-29 = equal-below₂ 2 2 (λ x y. parityBit (fillersAlone x y) (line 4)) (λ x y. y) tt
+
+pub alone-30 : (x y : ℕ) → x < 2 → y < 2 → parityBit (fillersAlone x y) (line 5) ≡ x ⊕ y
+unfolding everyBelow fillersAlone parityBit sourceSum sourceBit line table
+alone-30 = equal-below₂ 2 2 (λ x y. parityBit (fillersAlone x y) (line 5)) _⊕_ tt
+
+-- two passing words with the same pair, the same source bits 1 to 22 and the same ending have the same fillers
+pub same-fillers : (u v : Window) → AreBits 32 u → AreBits 32 v → passes u ≡ true → passes v ≡ true
+    → u 0 ≡ v 0 → u 1 ≡ v 1 → u 30 ≡ v 30 → u 31 ≡ v 31 → ((i : ℕ) → 1 ≤ i → i ≤ 22 → sourceBit u i ≡ sourceBit v i)
+    → (sourceBit u 23 ≡ sourceBit v 23) × (sourceBit u 24 ≡ sourceBit v 24)
+unfolding sourceBit fillersAlone
+same-fillers u v bu bv pu pv p q a b same = (omega (arith, y-zero, both-zero), omega (arith, y-zero))
+  where
+    -- the fillers of the exclusive-or of both words
+    x : ℕ
+    x = sourceBit u 23 ⊕ sourceBit v 23
+
+    y : ℕ
+    y = sourceBit u 24 ⊕ sourceBit v 24
+
+    agree : Agree (xor u v) (fillersAlone x y)
+    agree =
+        record {
+          pairP = omega (arith, p);
+          pairQ = omega (arith, q);
+          source = λ i l h. sourceBit-linear u v i
+              ∙ by-fillers (λ i. sourceBit u i ⊕ sourceBit v i ≡ sourceBit (fillersAlone x y) i)
+              (λ i l h. rw (ne-eqb i 23 (λ e. omega arith), ne-eqb i 24 (λ e. omega arith)) (omega (arith, same i l h))) (omega arith) (omega arith) i l h;
+        }
+
+    none : (k : ℕ) → k < 6 → u (26 + k) ≡ v (26 + k) → parityBit (fillersAlone x y) (line k) ≡ 0
+    none k h e =
+        let alike : parityBit u (line k) ≡ parityBit v (line k) = sym (asked u bu pu k h) ∙ e ∙ asked v bv pv k h in
+        sym (parityBit-agree (xor u v) (fillersAlone x y) agree k h) ∙ parityBit-linear u v (line k) ∙ omega (arith, alike)
+
+    y-zero : y ≡ 0
+    y-zero = sym (alone-29 x y (omega arith) (omega arith)) ∙ none 4 (lit< tt) a
+
+    both-zero : x ⊕ y ≡ 0
+    both-zero = sym (alone-30 x y (omega arith) (omega arith)) ∙ none 5 (lit< tt) b

@@ -13,25 +13,18 @@ use Rattle.integers.specs.laws.Modulo.{modulo-lt, modulo-rest}
 use Rattle.record.specs.Writable.{writable}
 use Rattle.record.specs.declared.record.UtcPage.{UtcPage}
 use Rattle.record.specs.declared.record.Record.the-variants as R
-use Rattle.utc.specs.Leap.{weekDifference, leapWeek, leapMoment}
-use Rattle.utc.specs.laws.LeapWeeks.{leap-week-127, leap-week-bits}
+use Rattle.leap.specs.Leap.{weekDifference, leapWeek, leapMoment}
+use Rattle.leap.specs.laws.Leap.{leap-week-127, leap-week-bits}
 use Rattle.utc.specs.laws.Pages.{page-bytes}
 use Rattle.utc.specs.Time as Time
-use Rattle.utc.specs.Time.{gpsTime, offsetAt, secondOfDay, timeAt, IsTime, isGpsSecond, isDay}
+use Rattle.utc.specs.Time.{gpsTime, offsetAt, secondOfDay, isGpsSecond, isDay}
 use Rattle.utc.specs.laws.Ways.{time-accepted}
-use Rattle.utc.specs.declared.day.TimeOfDay.{TimeOfDay}
-
--- the time of a second of the day is one
-day-time : (s : ℕ) → s < 86400 → IsTime (timeAt s)
-unfolding timeAt
-day-time s h = record { hour-lt = omega arith; minute-lt = omega arith; second-lt = omega arith }
-
-pub time-seconds : (s : ℕ) → timeAt s .hour * 3600 + timeAt s .minute * 60 + timeAt s .second ≡ s
-unfolding timeAt
-time-seconds s = omega arith
+use Rattle.day.specs.Day.{timeAt, IsTime}
+use Rattle.day.specs.declared.TimeOfDay.{TimeOfDay}
+use Rattle.day.specs.laws.Day.{day-time}
 
 module _ (page : UtcPage) (week second : ℕ) where
-  -- every answer is one
+  -- every answer is a time of day
   pub answer-time : (t : TimeOfDay) → Time.timeOfDay page week second ≡ accepted t → IsTime t
   unfolding secondOfDay
   answer-time t e =

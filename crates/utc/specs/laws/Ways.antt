@@ -1,25 +1,20 @@
--- Laws. What the question for the time answers, line by line of the table, and the bounds on a week and a second that pass.
+-- Laws. What the question for the time answers, line by line of the table.
 use mathlib.Core.Path.{_≡_, sym}
 use mathlib.Core.Bool.{true, false}
-use Prim.Native.Nat.{ℕ, _≤_}
-use borrow.Author.Tests.{leb-true, not-false}
-use lib.Dec.{leb}
+use Prim.Native.Nat.{ℕ}
+use borrow.Author.Tests.{not-false}
 use lib.IntN.{negsuc}
-use Rattle.finite.specs.laws.Booleans.{and-true}
 use Rattle.answer.specs.Answer.{accepted, refused, refuseIf}
 use Rattle.answer.specs.laws.Lines.{line-accepts, accepted-injective}
 use Rattle.integers.specs.Whole.{eqZ}
 use Rattle.record.specs.Writable.{writable}
 use Rattle.record.specs.declared.record.UtcPage.{UtcPage}
 use Rattle.record.specs.declared.record.Record.the-variants as R
-use Rattle.utc.specs.Leap.{weekDifference}
+use Rattle.leap.specs.Leap.{weekDifference}
 use Rattle.utc.specs.Time as Time
-use Rattle.utc.specs.Time.{isGpsSecond, isDay, timeAt, secondOfDay}
-use Rattle.utc.specs.declared.day.TimeOfDay.{TimeOfDay}
-
-pub gps-bounds : (week second : ℕ) → isGpsSecond week second ≡ true → (week ≤ 8191) × (second ≤ 604799)
-unfolding isGpsSecond
-gps-bounds week second h = let b = and-true (leb week 8191) (leb second 604799) h in (leb-true week 8191 (b .0), leb-true second 604799 (b .1))
+use Rattle.utc.specs.Time.{isGpsSecond, isDay, secondOfDay}
+use Rattle.day.specs.Day.{timeAt}
+use Rattle.day.specs.declared.TimeOfDay.{TimeOfDay}
 
 -- what an accepted question shows: each line let it pass, and the answer is the time
 pub record Answered (page : UtcPage) (week second : ℕ) (t : TimeOfDay) : Type 0 where

@@ -10,9 +10,9 @@ use lib.Dec.{eqb, lit<}
 use Rattle.bits.specs.Bits.{Bits, AreBits}
 use Rattle.finite.specs.laws.Booleans.{or-true}
 use Rattle.parity.specs.Word.{Window, sourceBit, passes}
-use Rattle.parity.specs.Encode.{AreSource, encode, encodeEnding}
-use Rattle.parity.specs.laws.OneWord.{encode-passes, encode-bits, encode-carries}
-use Rattle.parity.specs.laws.Fillers.{ending}
+use Rattle.encoder.specs.Encode.{AreSource, encode, encodeEnding}
+use Rattle.encoder.specs.laws.Encode.{encode-passes, encode-bits, encode-carries}
+use Rattle.encoder.specs.laws.Fillers.{ending}
 use Rattle.block.specs.Block.{window}
 use Rattle.block_check.specs.Compare.{NoFiller}
 use Rattle.writer.specs.Written.{wordSource, hasFillers, wordAfter, windowFrom, blockFrom}

@@ -1,7 +1,7 @@
 -- `lnav_accuracy` meets its contract.
 use mathlib.Core.Path.{sym, ap, _∙_}
 use borrow.Author.Needs.{needs}
-use Rattle.clock.specs.Accuracy as Accuracy
+use Rattle.accuracy.specs.Accuracy as Accuracy
 use Rattle.answer.specs.Answer.{Answer, andThen}
 use Rattle.record.specs.declared.record.Subframe1.{Subframe1}
 use Rattle.from_values.specs.FromValues.{givenSubframe1Answer}

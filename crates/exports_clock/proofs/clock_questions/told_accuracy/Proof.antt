@@ -4,9 +4,9 @@ use mathlib.Core.Bool.{true, false}
 use mathlib.Core.Option.{Option·elim}
 use borrow.Author.Needs.{needs}
 use Rattle.answer.specs.Answer.{number, detail, fromValue, checkedAnswer}
-use Rattle.clock.specs.Accuracy.{predicted, givenAccuracyAnswer}
-use Rattle.clock.specs.declared.ura.GivenAccuracy.{GivenAccuracy}
-use Rattle.clock.specs.declared.ura.GivenAccuracy.the-variants.{Given}
+use Rattle.accuracy.specs.Accuracy.{predicted, givenAccuracyAnswer}
+use Rattle.accuracy.specs.declared.GivenAccuracy.{GivenAccuracy}
+use Rattle.accuracy.specs.declared.GivenAccuracy.the-variants.{Given}
 use Rattle.told.specs.declared.LnavAnswer.{LnavAnswer}
 use Rattle.told.specs.Told.{told}
 use Rattle.exports_clock.specs.Told.{plusZero, isPredicted, metres, accuracyTold}

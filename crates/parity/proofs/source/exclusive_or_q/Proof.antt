@@ -17,21 +17,17 @@ even x q h = omega arith
 
 returns : tie.Need-returns
 returns c =
-    let a = c .before .args in (
-      ap (λ (x : ℕ). 0xffffff - x) (sym (pack-lowest 24 (a .bits)))
-          ∙ pack-inverse 24 (unpack 24 (a .bits))
-          ∙ pack-same 24 (inverse (unpack 24 (a .bits))) (λ i. unpack 24 (a .bits) i ⊕ a .q) (λ i l. odd (unpack 24 (a .bits) i) (a .q) (c .if1 .taken)),
-      omega arith,
-    )
+    let a = c .before .args in
+    ap (λ (x : ℕ). 0xffffff - x) (sym (pack-lowest 24 (a .bits)))
+    ∙ pack-inverse 24 (unpack 24 (a .bits))
+    ∙ pack-same 24 (inverse (unpack 24 (a .bits))) (λ i. unpack 24 (a .bits) i ⊕ a .q) (λ i l. odd (unpack 24 (a .bits) i) (a .q) (c .if1 .taken))
 
 returns-2 : tie.Need-returns-2
 returns-2 c =
     let a = c .before .args in
-    let q : a .q % 2 ≡ 0 = omega (arith, c .if1 .left) in (
-      sym (pack-lowest 24 (a .bits))
-          ∙ pack-same 24 (unpack 24 (a .bits)) (λ i. unpack 24 (a .bits) i ⊕ a .q) (λ i l. even (unpack 24 (a .bits) i) (a .q) q),
-      omega arith,
-    )
+    let q : a .q % 2 ≡ 0 = omega (arith, c .if1 .left) in
+    sym (pack-lowest 24 (a .bits))
+    ∙ pack-same 24 (unpack 24 (a .bits)) (λ i. unpack 24 (a .bits) i ⊕ a .q) (λ i l. even (unpack 24 (a .bits) i) (a .q) q)
 
 pub exclusive-or-q-spec : {M : Type 1} → statement M
 exclusive-or-q-spec = tie.close (tie.spec (λ c. search needs) returns returns-2)

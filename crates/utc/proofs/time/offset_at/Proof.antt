@@ -30,4 +30,4 @@ returns-2 c =
     toZ-ofZ w32 _ (record { sfits = at-dtls .1 .1 .1 .0 .1 }) ∙ by-test (c .before .before) false (c .before .if1 .left)
 
 pub offset-at-spec : {M : Type 1} → statement M
-offset-at-spec = tie.close (tie.spec (λ c κs. search needs) (λ c κs. search needs) returns returns-2)
+offset-at-spec = tie.close (tie.spec (λ c κs. tt) (λ c κs. tt) returns returns-2)

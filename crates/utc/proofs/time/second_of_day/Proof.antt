@@ -25,11 +25,11 @@ module _ (c : tie.After-gps-time) where
   abbrev second : ℕ
   second = c .before .before .args .second
 
-  gps-le : natAbs (gpsTime week second) ≤ 4954521599
+  gps-le : natAbs (gpsTime week second) ≤ 2597600514983295
   unfolding gpsTime
-  gps-le = omega (arith, c .before .before .pre)
+  gps-le = omega arith
 
-  gps-is : Small (toZ w64 (ofZ w64 (c .gps-time .result))) (gpsTime week second) 4954521599
+  gps-is : Small (toZ w64 (ofZ w64 (c .gps-time .result))) (gpsTime week second) 2597600514983295
   gps-is = stored w64 (record { is = c .gps-time .ensures; le = gps-le }) (lit< tt)
 
   offset-is : Small (toZ w32 (ofZ w32 (c .before .offset-at .result))) (offsetAt page week second) 2147483648
@@ -41,7 +41,7 @@ module _ (c : tie.After-gps-time) where
         le = subst (λ (z : ℤ). natAbs z ≤ 2147483648) (c .before .offset-at .ensures) size;
       }
 
-  less : Small (toZ w64 (ofZ w64 (c .gps-time .result)) -ℤ toZ w64 (ofZ w64 (toZ w32 (ofZ w32 (c .before .offset-at .result))))) (gpsTime week second -ℤ offsetAt page week second) 7102005247
+  less : Small (toZ w64 (ofZ w64 (c .gps-time .result)) -ℤ toZ w64 (ofZ w64 (toZ w32 (ofZ w32 (c .before .offset-at .result))))) (gpsTime week second -ℤ offsetAt page week second) 2597602662466943
   less = difference gps-is (stored w64 offset-is (lit< tt))
 
 returns : tie.Need-returns
@@ -51,4 +51,4 @@ returns c = c .modulo-day .ensures ∙ ap (λ (z : ℤ). modulo z 86400) (stored
 pub second-of-day-spec : {M : Type 1} → statement M
 second-of-day-spec =
     tie.close
-    (tie.spec (λ c κs. search needs) (λ c κs. search needs) (λ c. fits-of w64 (offset-is c) (lit< tt)) (λ c. fits-of w64 (less c) (lit< tt)) (λ c κs. tt) returns)
+    (tie.spec (λ c κs. tt) (λ c κs. tt) (λ c. fits-of w64 (offset-is c) (lit< tt)) (λ c. fits-of w64 (less c) (lit< tt)) (λ c κs. tt) returns)

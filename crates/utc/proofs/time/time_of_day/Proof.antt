@@ -13,9 +13,10 @@ use Rattle.integers.specs.laws.Machine.{same-bits}
 use Rattle.integers.specs.laws.Modulo.{eq-eqZ, ne-eqZ}
 use Rattle.record.specs.Writable.{writable}
 use Rattle.record.specs.declared.record.Record.the-variants as R
-use Rattle.utc.specs.Time.{givenTimeAnswer, isGpsSecond, isDay, timeAt}
-use Rattle.utc.specs.laws.Pages.{Bytes, page-bytes}
-use Rattle.utc.specs.laws.Ways.{gps-bounds, time-11, time-14, time-15, time-16, time-0}
+use Rattle.day.specs.Day.{timeAt}
+use Rattle.utc.specs.Time.{givenTimeAnswer, isGpsSecond, isDay}
+use Rattle.utc.specs.laws.Pages.{page-bytes}
+use Rattle.utc.specs.laws.Ways.{time-11, time-14, time-15, time-16, time-0}
 use Rattle.utc.proofs.time.time_of_day.Statement.{statement}
 use Rattle.utc.proofs.time.time_of_day.Tie as tie
 
@@ -56,9 +57,6 @@ cast-refusal-by c =
 day : (c : tie.Else3) → isDay (c .before .before .before .before .before .before .args .page .dn) ≡ true
 day c = sym (c .before .is-day .ensures) ∙ not-false _ (c .if3 .left)
 
-bytes : (c : tie.Else3) → Bytes (c .before .before .before .before .before .before .args .page)
-bytes c = let else1 = c .before .before .before .before in page-bytes (else1 .before .before .args .page) (taken else1)
-
 returns-4 : tie.Need-returns-4
 unfolding givenTimeAnswer
 returns-4 c =
@@ -69,14 +67,6 @@ returns-4 c =
     let is : asked .week-difference .result ≡ negsuc 127 = same-bits w64 (asked .week-difference .result) (negsuc 127) (search needs) (record { sfits = lit< tt }) (c .before .if4 .taken) in
     ap refusalAnswer (c .refusal-by4 .ensures)
     ∙ sym (time-16 (a .page) (a .week) (a .second) (taken else1) (in-range else2) (day (asked .before)) (eq-eqZ _ (negsuc 127) (sym (asked .week-difference .ensures) ∙ is)))
-
-second-of-day-requires : tie.Need-second-of-day-requires
-second-of-day-requires c κs =
-    let else3 = c .before .before in
-    let else2 = else3 .before .before in
-    let a = else2 .before .before .before .before .args in
-    let b = gps-bounds (a .week) (a .second) (in-range else2) in
-    (bytes else3 .wnlsf-lt, bytes else3 .dn-lt, b .0, b .1)
 
 returns-5 : tie.Need-returns-5
 unfolding givenTimeAnswer
@@ -93,5 +83,4 @@ returns-5 c =
 pub time-of-day-spec : {M : Type 1} → statement M
 time-of-day-spec =
     tie.close
-    (tie.spec (λ c κs. tt) (λ c κs. tt) returns (λ c κs. tt) (λ c κs. tt) returns-2 (λ c κs. tt) cast-refusal-by (λ c κs. tt) returns-3 (λ c κs. bytes c .wnlsf-lt) (λ c κs. tt) returns-4
-    second-of-day-requires (λ c κs. tt) returns-5)
+    (tie.spec (λ c κs. tt) (λ c κs. tt) returns (λ c κs. tt) (λ c κs. tt) returns-2 (λ c κs. tt) cast-refusal-by (λ c κs. tt) returns-3 (λ c κs. tt) (λ c κs. tt) returns-4 (λ c κs. tt) (λ c κs. tt) returns-5)

@@ -11,9 +11,9 @@ use lib.ListN.{getD}
 use Rattle.bits.specs.Bits.{bitsAt, pack, unpack}
 use Rattle.bits.specs.laws.Pack.{pack-lt, pack-equal, unpack-pack}
 use Rattle.bits.specs.laws.Parts.{pack-append}
-use Rattle.parity.specs.Encode.{sourceOf, encode, encodeEnding}
-use Rattle.parity.specs.laws.OneWord.{encode-same}
-use Rattle.parity.specs.laws.Fillers.{ending-same}
+use Rattle.encoder.specs.Encode.{sourceOf, encode, encodeEnding}
+use Rattle.encoder.specs.laws.Encode.{encode-same}
+use Rattle.encoder.specs.laws.Fillers.{ending-same}
 use Rattle.writer.specs.Written.{wordSource, hasFillers, wordAfter}
 use Rattle.writer.proofs.words.word_after.Statement.{statement}
 use Rattle.writer.proofs.words.word_after.Tie as tie

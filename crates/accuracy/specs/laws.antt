@@ -1,0 +1,3 @@
+-- Laws about the definitions of this crate.
+pub mod Answers
+pub mod Accuracy

@@ -1,0 +1,24 @@
+-- Laws. The answer determines the enum of the code.
+use mathlib.Core.Path.{_≡_, refl}
+use mathlib.Core.Option.{Option, none, some}
+use lib.Ieee.{Float}
+use Rattle.answer.specs.laws.Lines.{answered, answer-injective}
+use Rattle.accuracy.specs.Accuracy.{predicted, givenAccuracyAnswer}
+use Rattle.accuracy.specs.declared.UserRangeAccuracy.{UserRangeAccuracy}
+use Rattle.accuracy.specs.declared.UserRangeAccuracy.the-variants.{Metres, NoPrediction}
+use Rattle.accuracy.specs.declared.GivenAccuracy.{GivenAccuracy}
+use Rattle.accuracy.specs.declared.GivenAccuracy.the-variants.{Given, Refused}
+
+-- the code's accuracy that says this
+accuracyOf : Option Float → UserRangeAccuracy
+accuracyOf (some x) = Metres x
+accuracyOf none = NoPrediction
+
+pub givenAccuracyAnswer-injective : (x y : GivenAccuracy) → givenAccuracyAnswer x ≡ givenAccuracyAnswer y → x ≡ y
+unfolding givenAccuracyAnswer predicted answered accuracyOf
+givenAccuracyAnswer-injective = answer-injective (λ o. Given (accuracyOf o)) Refused givenAccuracyAnswer back
+  where
+    back : (x : GivenAccuracy) → answered (λ o. Given (accuracyOf o)) Refused (givenAccuracyAnswer x) ≡ x
+    back (Given (Metres x)) = refl
+    back (Given NoPrediction) = refl
+    back (Refused r) = refl
