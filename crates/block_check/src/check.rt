@@ -8,9 +8,17 @@ ghost use mathlib.Core.Path.{_≡_};
 ghost use Prim.Native.Nat.{_+_, _≤_};
 ghost use lib.ListN.{length};
 ghost use Rattle.bits.specs.Bits.{bitsAt};
+ghost use Rattle.answer.specs.Answer as Answer;
 ghost use Rattle.answer.specs.Answer.{checkedAnswer};
 ghost use Rattle.block_check.specs.Check as Check;
 ghost use Rattle.block_check.specs.Check.{endsAlike, firstAbove, firstBroken};
+
+// Refused by this number, with this detail.
+fn refused(number: u8, detail: usize) -> Checked
+    ensures { λ r. ⌜ checkedAnswer r ≡ Answer.refused number detail ⌝ }
+{
+    Checked::Refused(refusal_by(number, detail))
+}
 
 // The index in the block at p of its first byte above 1, or 302.
 fn first_above(log: &[u8], p: usize) -> usize
@@ -61,24 +69,24 @@ fn check_fields(log: &[u8], p: usize) -> Checked
 {
     let telemetry = parity::source_bits(parity::packed_window(log, p));
     if telemetry / 0x10000 % 0x100 != 0b10001011 {
-        return Checked::Refused(refusal_by(6, 0));
+        return refused(6, 0);
     }
     if !ends_alike(log, p, 2) {
-        return Checked::Refused(refusal_by(7, 2));
+        return refused(7, 2);
     }
     if !ends_alike(log, p, 10) {
-        return Checked::Refused(refusal_by(7, 10));
+        return refused(7, 10);
     }
     let number = subframe_number_at(log, p);
     if number == 0 {
-        return Checked::Refused(refusal_by(8, number));
+        return refused(8, number);
     }
     if 5 < number {
-        return Checked::Refused(refusal_by(8, number));
+        return refused(8, number);
     }
     let count = count_at(log, p);
     if block::LARGEST_COUNT < count {
-        return Checked::Refused(refusal_by(9, count));
+        return refused(9, count);
     }
     Checked::Accepted
 }
@@ -90,14 +98,14 @@ fn check_bits(log: &[u8], p: usize) -> Checked
 {
     let i = first_above(log, p);
     if i < block::BLOCK_BYTES {
-        return Checked::Refused(refusal_by(2, p + i));
+        return refused(2, p + i);
     }
     if log[p] != log[p + 1] {
-        return Checked::Refused(refusal_by(4, p));
+        return refused(4, p);
     }
     let k = first_broken(log, p);
     if k < 11 {
-        return Checked::Refused(refusal_by(5, k));
+        return refused(5, k);
     }
     check_fields(log, p)
 }
@@ -107,10 +115,10 @@ pub fn check_block(log: &[u8], p: usize) -> Checked
     ensures { λ r. ⌜ checkedAnswer r ≡ Check.checkBlock (now (log .entry)) p ⌝ }
 {
     if block::LOG_LIMIT < log.len() {
-        return Checked::Refused(refusal_by(1, log.len()));
+        return refused(1, log.len());
     }
     if !has_room(log, p) {
-        return Checked::Refused(refusal_by(3, p));
+        return refused(3, p);
     }
     check_bits(log, p)
 }

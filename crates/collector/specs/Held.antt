@@ -1,5 +1,5 @@
 -- Definitions. What a collector holds (document 01, 'Finding and holding').
-use mathlib.Core.Option.{Option, none, some}
+use mathlib.Core.Option.{Option}
 use Prim.Native.Nat.{ℕ, _-_}
 use lib.ListN.{getD, replicate}
 use Rattle.record.specs.declared.record.Subframe1.{Subframe1}
@@ -8,32 +8,15 @@ use Rattle.record.specs.declared.record.Subframe3.{Subframe3}
 use Rattle.record.specs.declared.record.AlmanacPage.{AlmanacPage}
 use Rattle.record.specs.declared.record.UtcPage.{UtcPage}
 use Rattle.orbit_set.specs.Held.{subframe1In, subframe2In, subframe3In}
+use Rattle.pages.specs.Held as Pages
+use Rattle.pages.specs.Held.{emptyPages}
 use Rattle.satellite.specs.Satellite.{emptySatellite}
 use Rattle.satellite.specs.declared.Satellite.{Satellite}
-use Rattle.collector.specs.declared.held.AlmanacEntry.{AlmanacEntry}
 use Rattle.collector.specs.declared.held.Collector.{Collector}
-use Rattle.collector.specs.declared.held.HeldAlmanac.{HeldAlmanac}
-use Rattle.collector.specs.declared.held.HeldAlmanac.the-variants as HA
-use Rattle.collector.specs.declared.held.HeldUtc.{HeldUtc}
-use Rattle.collector.specs.declared.held.HeldUtc.the-variants as HU
 
--- ---- the collector that holds nothing
-
-unfoldable pub emptyEntry : AlmanacEntry
-emptyEntry = record { page = HA.Nothing }
-
+-- the collector that holds nothing
 unfoldable pub emptyCollector : Collector
-emptyCollector = record { satellites = replicate 32 emptySatellite; almanac = replicate 32 emptyEntry; utc = HU.Nothing }
-
--- ---- what the code's enums say
-
-unfoldable pub almanacIn : HeldAlmanac → Option AlmanacPage
-almanacIn HA.Nothing = none
-almanacIn (HA.Latest r) = some r
-
-unfoldable pub utcIn : HeldUtc → Option UtcPage
-utcIn HU.Nothing = none
-utcIn (HU.Latest r) = some r
+emptyCollector = record { satellites = replicate 32 emptySatellite; pages = emptyPages }
 
 -- ---- what is held of satellite n, and for SV ID n
 
@@ -50,7 +33,7 @@ unfoldable pub heldSubframe3 : Collector → ℕ → Option Subframe3
 heldSubframe3 c n = subframe3In (satelliteOf c n .subframes .subframe3)
 
 unfoldable pub heldAlmanac : Collector → ℕ → Option AlmanacPage
-heldAlmanac c n = almanacIn (getD (c .almanac) (n - 1) emptyEntry .page)
+heldAlmanac c n = Pages.heldAlmanac (c .pages) n
 
 unfoldable pub heldUtc : Collector → Option UtcPage
-heldUtc c = utcIn (c .utc)
+heldUtc c = Pages.heldUtc (c .pages)

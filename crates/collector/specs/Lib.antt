@@ -2,5 +2,4 @@
 pub mod Held
 pub mod Feed
 pub mod Questions
-pub mod History
 pub mod laws

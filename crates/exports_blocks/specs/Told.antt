@@ -5,7 +5,7 @@ use Rattle.answer.specs.Answer.{Answer, fromValue}
 use Rattle.block.specs.declared.polarity.Polarity.{Polarity}
 use Rattle.block.specs.declared.polarity.Polarity.the-variants.{Upright, Inverted}
 use Rattle.record.specs.declared.record.Record.{Record}
-use Rattle.values.specs.Values.{kindNumber}
+use Rattle.kind.specs.Number.{kindNumber}
 use Rattle.told.specs.Told.{told}
 use Rattle.exports_blocks.specs.declared.blocks.LnavFound.{LnavFound}
 use Rattle.exports_blocks.specs.declared.blocks.LnavReading.{LnavReading}

@@ -80,7 +80,7 @@ pub extern "C" fn lnav_read(log: &[u8], place: usize, values: &mut [i64; 25]) ->
             *values = values::values_of(r);
             LnavReading {
                 answer: answer_of(Checked::Accepted),
-                kind: values::kind_number(r),
+                kind: kind::kind_number(r),
             }
         }
         Reading::Refused(r) => LnavReading {

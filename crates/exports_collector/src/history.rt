@@ -2,10 +2,10 @@
 // question is answered.
 use answer::Checked;
 use collector::Collector;
-use collector::GivenAlmanac;
-use collector::GivenUtc;
 use histories::collected;
 use orbit_set::GivenSet;
+use pages::GivenAlmanac;
+use pages::GivenUtc;
 use record::Record;
 use told::LnavAnswer;
 use told::answer_of;

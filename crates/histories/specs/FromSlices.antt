@@ -5,7 +5,7 @@ use lib.ListN.{length, getD}
 use Rattle.finite.specs.Least.{least}
 use Rattle.answer.specs.Answer.{Answer}
 use Rattle.collector.specs.Questions as Questions
-use Rattle.collector.specs.History.{Feed, reached}
+use Rattle.histories.specs.History.{Feed, reached}
 use Rattle.orbit_set.specs.declared.set.OrbitSet.{OrbitSet}
 use Rattle.record.specs.declared.record.AlmanacPage.{AlmanacPage}
 use Rattle.record.specs.declared.record.UtcPage.{UtcPage}

@@ -1,2 +1,4 @@
--- The files of this folder: definitions.
+-- The files of this folder: definitions; laws about them.
+pub mod History
 pub mod FromSlices
+pub mod laws

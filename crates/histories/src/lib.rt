@@ -2,7 +2,7 @@
 use collector::Collector;
 ghost use mathlib.Core.Path.{_≡_};
 ghost use Rattle.finite.specs.Least.{least};
-ghost use Rattle.collector.specs.History.{reached};
+ghost use Rattle.histories.specs.History.{reached};
 ghost use Rattle.histories.specs.FromSlices.{history};
 
 fn least_of(a: usize, b: usize) -> usize

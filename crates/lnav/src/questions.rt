@@ -12,11 +12,11 @@ use crate::numbers::Numbers;
 use crate::numbers::last_numbers;
 use crate::numbers::numbers_at;
 use collector::Collector;
-use collector::GivenUtc;
 use console::print_refusal;
 use from_values::GivenSubframe1;
 use from_values::GivenUtcPage;
 use orbit_set::GivenSet;
+use pages::GivenUtc;
 
 // The numbers of the kinds that questions take.
 const SUBFRAME1: usize = 1;

@@ -81,7 +81,7 @@ fn print_kind(kind: usize) {
 
 // Prints the kind, and a line for each field: name, number, and the value with its unit.
 pub fn print_fields(r: Record) {
-    let kind = values::kind_number(r) as usize;
+    let kind = kind::kind_number(r) as usize;
     print(b"kind ");
     print_kind(kind);
     end_line();
@@ -90,7 +90,7 @@ pub fn print_fields(r: Record) {
 
 // Prints a record as a line: its kind, and `NAME=NUMBER` for each field.
 pub fn print_record(r: Record) {
-    let kind = values::kind_number(r) as usize;
+    let kind = kind::kind_number(r) as usize;
     print_kind(kind);
     print_numbers(kind, values::values_of(r), false);
     end_line();

@@ -1,22 +1,11 @@
-// One satellite: its number, what is held of it, and what a record of its own does to that.
+// One satellite: what is held of it, and what a record of its own does to that.
 use orbit_set::HeldSubframe1;
 use orbit_set::HeldSubframe2;
 use orbit_set::HeldSubframe3;
 use orbit_set::HeldSubframes;
 use record::Record;
 ghost use mathlib.Core.Path.{_≡_};
-ghost use Rattle.satellite.specs.Numbers as Numbers;
 ghost use Rattle.satellite.specs.Satellite.{emptySatellite, subframesAfter, satelliteAfter};
-
-// Whether a number is that of a satellite, or an SV ID.
-pub fn is_satellite(n: usize) -> bool
-    ensures { λ r. ⌜ r ≡ Numbers.isSatellite n ⌝ }
-{
-    if n < 1 {
-        return false;
-    }
-    n <= 32
-}
 
 // What is held of one satellite.
 pub struct Satellite {

@@ -51,12 +51,3 @@ valuesOf (R.Subframe3 r) = valuesOfSubframe3 r
 valuesOf (R.Almanac r) = valuesOfAlmanac r
 valuesOf (R.Utc r) = valuesOfUtc r
 valuesOf (R.Other r) = valuesOfOther r
-
--- the number of a record's kind
-unfoldable pub kindNumber : Record → ℕ
-kindNumber (R.Subframe1 r) = 1
-kindNumber (R.Subframe2 r) = 2
-kindNumber (R.Subframe3 r) = 3
-kindNumber (R.Almanac r) = 4
-kindNumber (R.Utc r) = 5
-kindNumber (R.Other r) = 6

@@ -7,7 +7,8 @@ use Rattle.reader.specs.Reader as Reader
 use Rattle.answer.specs.Answer.{accepted, refused, refuseIf, whenHeld}
 use Rattle.record.specs.declared.record.Record.{Record}
 use Rattle.orbit_set.specs.Set.{setIn}
-use Rattle.satellite.specs.Numbers.{isSatellite}
+use Rattle.satellite_number.specs.Numbers.{isSatellite}
+use Rattle.pages.specs.laws.Ways as Pages
 use Rattle.collector.specs.Held.{heldSubframe1, heldSubframe2, heldSubframe3, heldAlmanac}
 use Rattle.collector.specs.Feed as Feed
 use Rattle.collector.specs.Feed.{kept, collectorAfter, fed}
@@ -47,9 +48,9 @@ module _ (c : Collector) (n : ℕ) where
   set-held h = rw h
 
   pub almanac-13 : isSatellite n ≡ false → Questions.almanac c n ≡ refused 13 n
-  unfolding Questions.almanac refuseIf
-  almanac-13 h = rw h
+  unfolding Questions.almanac
+  almanac-13 h = Pages.almanac-13 (c .pages) n h
 
   pub almanac-held : isSatellite n ≡ true → Questions.almanac c n ≡ whenHeld (heldAlmanac c n) 20 0 accepted
-  unfolding Questions.almanac refuseIf
-  almanac-held h = rw h
+  unfolding Questions.almanac heldAlmanac
+  almanac-held h = Pages.almanac-held (c .pages) n h

@@ -14,7 +14,8 @@ use Rattle.reader.specs.laws.Reader.{reads-writable}
 use Rattle.record.specs.declared.record.Record.{Record}
 use Rattle.from_values.specs.FromValues as FromValues
 use Rattle.from_values.specs.laws.OwnValues.{own-values}
-use Rattle.values.specs.Values.{valuesOf, kindNumber}
+use Rattle.values.specs.Values.{valuesOf}
+use Rattle.kind.specs.Number.{kindNumber}
 use Rattle.writer.specs.laws.RoundTrip.{rewritten}
 use Rattle.writer.specs.Writer as Writer
 use Rattle.writer.specs.Writer.{bufferAfter}

@@ -32,7 +32,8 @@ use Rattle.record.specs.declared.record.UtcPage.{UtcPage}
 use Rattle.record.specs.declared.record.AlmanacPage.{AlmanacPage}
 use Rattle.record.specs.declared.record.Record.{Record}
 use Rattle.record.specs.declared.record.Record.the-variants as R
-use Rattle.values.specs.Values.{padded, valuesOfSubframe1, valuesOfSubframe2, valuesOfSubframe3, valuesOfAlmanac, valuesOfUtc, valuesOfOther, valuesOf, kindNumber}
+use Rattle.values.specs.Values.{padded, valuesOfSubframe1, valuesOfSubframe2, valuesOfSubframe3, valuesOfAlmanac, valuesOfUtc, valuesOfOther, valuesOf}
+use Rattle.kind.specs.Number.{kindNumber}
 use Rattle.from_values.specs.FromValues as FromValues
 use Rattle.from_values.specs.FromValues.{between, natural32, whole32, headerFrom, subframe1From, subframe2From, subframe3From, almanacFrom, utcFrom, otherFrom, recordFrom, sameValues, isKindNumber, having}
 

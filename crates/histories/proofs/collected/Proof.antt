@@ -9,7 +9,7 @@ use mir.Syntax.{w64}
 use mir.Val.{Fits}
 use Rattle.finite.specs.laws.Least.{least-le}
 use Rattle.collector.specs.Feed.{fed}
-use Rattle.collector.specs.History.{reached}
+use Rattle.histories.specs.History.{reached}
 use Rattle.collector.specs.declared.held.Collector.{Collector}
 use Rattle.histories.specs.FromSlices.{feeds, history}
 use Rattle.histories.proofs.collected.Statement.{statement}

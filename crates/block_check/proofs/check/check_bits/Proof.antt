@@ -1,9 +1,8 @@
 -- `check_bits` meets its contract, by the ways through the table.
-use mathlib.Core.Path.{_≡_, sym, ap, _∙_}
+use mathlib.Core.Path.{_≡_, sym, _∙_}
 use Prim.Native.Nat.{ℕ}
 use native.Mathlib.Omega.{arith}
 use borrow.Author.Needs.{needs}
-use Rattle.answer.specs.Answer.{refusalAnswer, checkedAnswer}
 use Rattle.bits.specs.Bits.{bitsAt}
 use Rattle.bits.specs.laws.Places.{bitsAt-first}
 use Rattle.block.specs.Block.{Block}
@@ -26,25 +25,22 @@ pair : (c : tie.After-first-broken) → block (looked c) 0 ≡ block (looked c) 
 pair c = bitsAt-first (looked c .before .before .args .log .now) (place (looked c)) ∙ c .before .if2 .left
 
 returns : tie.Need-returns
-unfolding checkedAnswer
 returns c =
     let d = c .before .before in
-    ap refusalAnswer (c .refusal-by .ensures) ∙ way-2 (place d) (block d) _ (d .first-above .ensures) (omega arith)
+    c .refused .ensures ∙ way-2 (place d) (block d) _ (d .first-above .ensures) (omega arith)
 
 returns-2 : tie.Need-returns-2
-unfolding checkedAnswer
 returns-2 c =
     let d = c .before .before .before .before .before in
     let a = d .before .before .args in
-    ap refusalAnswer (c .refusal-by2 .ensures)
+    c .refused2 .ensures
     ∙ way-4 (place d) (block d) _ (d .first-above .ensures) (omega arith) (λ e. c .before .if2 .taken (sym (bitsAt-first (a .log .now) (a .p)) ∙ e))
 
 returns-3 : tie.Need-returns-3
-unfolding checkedAnswer
 returns-3 c =
     let k = c .before .before in
     let d = looked k in
-    ap refusalAnswer (c .refusal-by3 .ensures)
+    c .refused3 .ensures
     ∙ way-5 (place d) (block d) _ (d .first-above .ensures) (omega arith) (pair k) _ (k .first-broken .ensures) (omega arith)
 
 returns-4 : tie.Need-returns-4

@@ -1,26 +1,23 @@
 -- `check_block` meets its contract, by the ways through the table.
-use mathlib.Core.Path.{sym, ap, _∙_}
+use mathlib.Core.Path.{sym, _∙_}
 use Prim.Native.Nat.{_+_, _≤_}
 use native.Mathlib.Omega.{arith}
 use borrow.Author.Needs.{needs}
 use borrow.Author.Tests.{leb-true, leb-false, not-true, not-false}
 use lib.ListN.{length}
-use Rattle.answer.specs.Answer.{refusalAnswer, checkedAnswer}
 use Rattle.block_check.specs.laws.Ways.{way-1, way-3, way-bits}
 use Rattle.block_check.proofs.check.check_block.Statement.{statement}
 use Rattle.block_check.proofs.check.check_block.Tie as tie
 
 returns : tie.Need-returns
-unfolding checkedAnswer
 returns c =
     let a = c .before .before .before .args in
-    ap refusalAnswer (c .refusal-by .ensures) ∙ way-1 (a .log .now) (a .p) (omega arith)
+    c .refused .ensures ∙ way-1 (a .log .now) (a .p) (omega arith)
 
 returns-2 : tie.Need-returns-2
-unfolding checkedAnswer
 returns-2 c =
     let a = c .before .before .before .before .before .args in
-    ap refusalAnswer (c .refusal-by2 .ensures)
+    c .refused2 .ensures
     ∙ way-3 (a .log .now) (a .p) (omega arith) (leb-false _ _ (sym (c .before .before .has-room .ensures) ∙ not-true _ (c .before .if2 .taken)))
 
 -- there is room

@@ -11,7 +11,7 @@ use Rattle.parity.specs.Word.{sourceBits}
 use Rattle.block.specs.Block.{Block}
 use Rattle.block.specs.laws.Packed.{field-at}
 use Rattle.block_check.specs.Check.{preamble, endsAlike}
-use Rattle.answer.specs.Answer.{checkedAnswer, refusalAnswer}
+use Rattle.answer.specs.Answer.{checkedAnswer}
 use Rattle.block_check.specs.laws.Ways.{Framed, way-0, way-6, way-7-2, way-7-10, way-8-none, way-8-above, way-9}
 use Rattle.block_check.proofs.check.check_fields.Statement.{statement}
 use Rattle.block_check.proofs.check.check_fields.Tie as tie
@@ -54,43 +54,37 @@ module _ (c : tie.After-subframe-number-at) where
 -- ---- the needs
 
 returns : tie.Need-returns
-unfolding checkedAnswer
 returns c =
     let d = c .before .before in
-    ap refusalAnswer (c .refusal-by .ensures) ∙ way-6 (block1 d) (λ e. c .before .if1 .taken (preamble-of d ∙ e))
+    c .refused .ensures ∙ way-6 (block1 d) (λ e. c .before .if1 .taken (preamble-of d ∙ e))
 
 returns-2 : tie.Need-returns-2
-unfolding checkedAnswer
 returns-2 c =
     let d = c .before .before in
-    ap refusalAnswer (c .refusal-by2 .ensures) ∙ way-7-2 (block1 (d .before .before)) (passed1 (d .before)) (sym (d .ends-alike .ensures) ∙ not-true _ (c .before .if2 .taken))
+    c .refused2 .ensures ∙ way-7-2 (block1 (d .before .before)) (passed1 (d .before)) (sym (d .ends-alike .ensures) ∙ not-true _ (c .before .if2 .taken))
 
 returns-3 : tie.Need-returns-3
-unfolding checkedAnswer
 returns-3 c =
     let d = c .before .before in
-    ap refusalAnswer (c .refusal-by3 .ensures)
+    c .refused3 .ensures
     ∙ way-7-10 (block2 (d .before)) (passed1 (d .before .before .before)) (passed2 (d .before)) (sym (d .ends-alike2 .ensures) ∙ not-true _ (c .before .if3 .taken))
 
 returns-4 : tie.Need-returns-4
-unfolding checkedAnswer
 returns-4 c =
     let d = c .before .before in
-    ap refusalAnswer (c .refusal-by4 .ensures) ∙ way-8-none (block2 (else2 d)) (framed d) _ (d .subframe-number-at .ensures) (c .before .if4 .taken)
+    c .refused4 .ensures ∙ way-8-none (block2 (else2 d)) (framed d) _ (d .subframe-number-at .ensures) (c .before .if4 .taken)
 
 returns-5 : tie.Need-returns-5
-unfolding checkedAnswer
 returns-5 c =
     let d = c .before .before .before in
-    ap refusalAnswer (c .refusal-by5 .ensures)
+    c .refused5 .ensures
     ∙ way-8-above (block2 (else2 d)) (framed d) _ (d .subframe-number-at .ensures) (c .before .before .if4 .left) (omega (arith, c .before .if5 .taken))
 
 returns-6 : tie.Need-returns-6
-unfolding checkedAnswer
 returns-6 c =
     let e = c .before .before in
     let d = e .before .before .before in
-    ap refusalAnswer (c .refusal-by6 .ensures)
+    c .refused6 .ensures
     ∙ way-9 (block2 (else2 d)) (framed d) _ (d .subframe-number-at .ensures) (e .before .before .if4 .left) (omega (arith, e .before .if5 .left)) _ (e .count-at .ensures) (omega (arith, c .before .if6 .taken))
 
 returns-7 : tie.Need-returns-7

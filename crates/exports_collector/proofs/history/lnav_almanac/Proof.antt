@@ -4,7 +4,7 @@ use borrow.Author.Needs.{needs}
 use denote.Ref.{now}
 use Rattle.answer.specs.Answer.{number, detail, fromValue, checkedAnswer}
 use Rattle.collector.specs.Questions as Questions
-use Rattle.collector.specs.Questions.{givenAlmanacAnswer}
+use Rattle.pages.specs.Questions.{givenAlmanacAnswer}
 use Rattle.collector.specs.declared.held.Collector.{Collector}
 use Rattle.values.specs.Values.{valuesOfAlmanac, valuesOf}
 use Rattle.histories.specs.FromSlices.{almanacPageAfter}

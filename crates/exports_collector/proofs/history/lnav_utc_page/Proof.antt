@@ -4,7 +4,7 @@ use borrow.Author.Needs.{needs}
 use denote.Ref.{now}
 use Rattle.answer.specs.Answer.{number, detail, fromValue, checkedAnswer}
 use Rattle.collector.specs.Questions as Questions
-use Rattle.collector.specs.Questions.{givenUtcAnswer}
+use Rattle.pages.specs.Questions.{givenUtcAnswer}
 use Rattle.values.specs.Values.{valuesOfUtc, valuesOf}
 use Rattle.histories.specs.FromSlices.{utcPageAfter}
 use Rattle.told.specs.Told.{told}

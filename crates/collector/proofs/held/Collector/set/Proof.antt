@@ -6,7 +6,7 @@ use borrow.Author.Tests.{not-true, not-false}
 use Rattle.answer.specs.Answer.{refusalAnswer}
 use Rattle.orbit_set.specs.Set.{givenSetAnswer}
 use Rattle.satellite.specs.Satellite.{emptySatellite}
-use Rattle.satellite.specs.laws.Numbers.{bounds}
+use Rattle.satellite_number.specs.laws.Numbers.{bounds}
 use Rattle.collector.specs.Held.{satelliteOf, heldSubframe1, heldSubframe2, heldSubframe3}
 use Rattle.collector.specs.laws.Ways.{set-13, set-held}
 use Rattle.collector.proofs.held.Collector.set.Statement.{statement}

@@ -1,21 +1,11 @@
--- `utc_page` meets its contract.
-use mathlib.Core.Path.{sym, ap, _∙_}
-use borrow.Author.Needs.{needs}
-use Rattle.answer.specs.Answer.{accepted, refusalAnswer, whenHeld}
-use Rattle.collector.specs.Held.{utcIn, heldUtc}
+-- `utc_page` meets its contract, which is that of the pages.
 use Rattle.collector.specs.Questions as Questions
-use Rattle.collector.specs.Questions.{givenUtcAnswer}
-use Rattle.collector.specs.declared.held.HeldUtc.{HeldUtc}
 use Rattle.collector.proofs.held.Collector.utc_page.Statement.{statement}
 use Rattle.collector.proofs.held.Collector.utc_page.Tie as tie
 
 returns : tie.Need-returns
-unfolding givenUtcAnswer Questions.utcPage heldUtc utcIn whenHeld
-returns c = sym (ap (λ (x : HeldUtc). whenHeld (utcIn x) 20 0 accepted) (c .before .utc .given .1))
-
-returns-2 : tie.Need-returns-2
-unfolding givenUtcAnswer Questions.utcPage heldUtc utcIn whenHeld
-returns-2 c = ap refusalAnswer (c .refusal-by .ensures) ∙ sym (ap (λ (x : HeldUtc). whenHeld (utcIn x) 20 0 accepted) (c .before .enum-told .given .1))
+unfolding Questions.utcPage
+returns c = c .utc-page .ensures
 
 pub utc-page-spec : {M : Type 1} → statement M
-utc-page-spec = tie.close (tie.spec (λ c. search needs) (λ c. search needs) (λ c κs. tt) returns returns-2)
+utc-page-spec = tie.close (tie.spec (λ c κs. tt) returns)

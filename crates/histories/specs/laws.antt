@@ -1,0 +1,7 @@
+-- Laws about the definitions of this crate.
+pub mod Entries
+pub mod AfterFeed
+pub mod History
+pub mod Sets
+pub mod Pages
+pub mod Received
