@@ -8,6 +8,7 @@ use console::print;
 use console::print_byte;
 use console::print_refusal;
 use console::print_two_digits;
+use console::space;
 use day::TimeOfDay;
 use orbit_set::GivenSet;
 use pages::GivenUtc;
@@ -16,18 +17,26 @@ use record::UtcPage;
 use record_text::print_double;
 use utc::GivenTime;
 
-// Prints a name, a double with its unit, and the double's bits as a line.
-fn print_term(name: &[u8], x: f64, unit: &[u8]) {
-    print(name);
-    print_double(x, unit);
+// Prints a double as a line: its name, the double with its unit, and its bits. Number i is that of its line among the names and units.
+fn print_term(i: usize, x: f64) {
+    let terms = b"tgd s
+af0 s
+af1 s/s
+af2 s/s^2
+metres m
+";
+    let term = lines::line(terms, i);
+    print(lines::word(term, 0));
+    space();
+    print_double(x, lines::word(term, 1));
     end_line();
 }
 
 fn print_terms(t: ClockTerms) {
-    print_term(b"tgd ", t.tgd, b"s");
-    print_term(b"af0 ", t.af0, b"s");
-    print_term(b"af1 ", t.af1, b"s/s");
-    print_term(b"af2 ", t.af2, b"s/s^2");
+    print_term(0, t.tgd);
+    print_term(1, t.af0);
+    print_term(2, t.af1);
+    print_term(3, t.af2);
 }
 
 // The clock terms of a subframe 1.
@@ -48,7 +57,7 @@ pub fn print_clock(set: GivenSet) {
 
 fn print_length(a: UserRangeAccuracy) {
     match a {
-        UserRangeAccuracy::Metres(x) => print_term(b"metres ", x, b"m"),
+        UserRangeAccuracy::Metres(x) => print_term(4, x),
         UserRangeAccuracy::NoPrediction => print(b"no prediction\n"),
     }
 }

@@ -29,12 +29,12 @@ find LOG PLACE                  the first accepted block at or after a place
 list LOG                        place, number, count and polarity of each block
 read LOG PLACE                  every field of the block at a place
 words LOG PLACE                 the ten words of the block at a place
+feed LOG PLACE SATELLITE        feeds the block at a place to the collector
+feed-all LOG SATELLITE          feeds every block of a log
 word BITS                       a word: 32 digits, the two bits before it first
 write KIND VALUE.. [inverted]   the block of a record
 invert written                  swaps 0 and 1 in the block
 flip written INDEX              flips one bit of the block, 0 to 301
-feed LOG PLACE SATELLITE        feeds the block at a place to the collector
-feed-all LOG SATELLITE          feeds every block of a log
 set N                           the orbit set of satellite N
 almanac N                       the almanac page of SV ID N
 utc                             the UTC page

@@ -1,9 +1,13 @@
 // The record that the words of a line write, as its kind and its values.
+use crate::help::ACCURACY;
+use crate::help::CLOCK;
+use crate::help::TIME;
+use crate::help::WRITE;
 use crate::messages::NO_FIELD;
 use crate::messages::NO_KIND;
 use crate::messages::NO_NUMBER;
 use crate::messages::complain;
-use crate::numbers::ends;
+use crate::request::ends;
 use digits::Whole;
 use record_text::COUNT;
 use record_text::FIELDS;
@@ -26,37 +30,36 @@ fn kind_named(name: &[u8]) -> usize {
     std::num::wrapping_add_usize(lines::named(&kinds, name, 0, 6), 1)
 }
 
-// Whether word i of a line is the name of a kind.
-pub(crate) fn is_kind(line: &[u8], i: usize) -> bool {
-    kind_named(lines::word(line, i)) < 7
-}
-
-// How many fields a kind has.
-fn field_count(kind: usize) -> usize {
-    if 6 < kind {
-        return 0;
+// i where word i of a line is the name of a kind, or else 0.
+fn kind_at(line: &[u8], i: usize) -> usize {
+    if kind_named(lines::word(line, i)) < 7 {
+        i
+    } else {
+        0
     }
-    COUNT[kind]
 }
 
-// The number among a kind's own fields, which follow the six of the header, of the one with this name; 25 where it has none.
-fn own_field_named(kind: usize, fields: &[u8], name: &[u8]) -> usize {
-    if 6 < kind {
-        return 25;
+// The word at which a command's record begins with its kind, or 0 where it has none.
+pub(crate) fn record_at(command: usize, line: &[u8]) -> usize {
+    match command {
+        WRITE => 1,
+        CLOCK | ACCURACY => kind_at(line, 1),
+        TIME => kind_at(line, 3),
+        _ => 0,
     }
-    let last = lines::named(fields, name, FIRST[kind], COUNT[kind]);
-    let i = std::num::wrapping_add_usize(last, 6);
-    if i < COUNT[kind] { i } else { 25 }
 }
 
-// The number of a kind's field with this name, or 25 where it has none.
+// The number of a kind's field with this name, or 25 where it has none: one of the header's six, or one of its own, which follow them.
 fn field_named(kind: usize, name: &[u8]) -> usize {
     let fields = FIELDS;
     let i = lines::named(&fields, name, 0, 6);
     if i < 6 {
         return i;
     }
-    own_field_named(kind, &fields, name)
+    let count = COUNT[kind % 8];
+    let own = lines::named(&fields, name, FIRST[kind % 8], count);
+    let i = std::num::wrapping_add_usize(own, 6);
+    if i < count { i } else { 25 }
 }
 
 // The place of the first such byte of a text, or the text's length.
@@ -90,7 +93,7 @@ fn field_of(kind: usize, word: &[u8], i: usize) -> Field
             digits: at + 1,
         };
     }
-    if i < field_count(kind) {
+    if i < COUNT[kind % 8] {
         return Field {
             number: i,
             digits: 0,

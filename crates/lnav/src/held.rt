@@ -1,24 +1,21 @@
-// What is held through the run: the collector, and the commands that feed it, ask it and empty it.
-use crate::feeds::feed_from_log;
-use crate::help::FEED;
+// What is held through the run: the collector after each command.
 use crate::help::FEED_ALL;
 use crate::help::FORGET;
-use crate::help::is_question;
-use crate::numbers::ends;
-use crate::questions::ask;
+use crate::on_log::on_log;
+use crate::questions::answer;
+use crate::request::Request;
 use crate::written::Block;
 use collector::Collector;
 
-// The collector after a command.
-pub(crate) fn held_after(c: Collector, command: usize, line: &[u8], block: Block) -> Collector {
-    if command == FEED || command == FEED_ALL {
-        return feed_from_log(c, command, line, block);
+// The collector after a command. The commands up to `feed-all` are those on a log.
+pub(crate) fn held_after(c: Collector, request: Request, line: &[u8], block: Block) -> Collector {
+    let command = request.command;
+    if command <= FEED_ALL {
+        return on_log(c, request, line, block);
     }
-    if command == FORGET && ends(line, 1) {
+    if command == FORGET {
         return Collector::empty();
     }
-    if is_question(command) {
-        ask(c, command, line);
-    }
+    answer(c, request, line);
     c
 }

@@ -1,4 +1,6 @@
 // The commands, by their names.
+use crate::messages::NO_COMMAND;
+use crate::messages::complain;
 
 // The numbers of the commands are those of their lines in the help text.
 pub(crate) const CHECK: usize = 0;
@@ -11,17 +13,17 @@ pub(crate) const READ: usize = 3;
 
 pub(crate) const WORDS: usize = 4;
 
-pub(crate) const WORD: usize = 5;
+pub(crate) const FEED: usize = 5;
 
-pub(crate) const WRITE: usize = 6;
+pub(crate) const FEED_ALL: usize = 6;
 
-pub(crate) const INVERT: usize = 7;
+pub(crate) const WORD: usize = 7;
 
-pub(crate) const FLIP: usize = 8;
+pub(crate) const WRITE: usize = 8;
 
-pub(crate) const FEED: usize = 9;
+pub(crate) const INVERT: usize = 9;
 
-pub(crate) const FEED_ALL: usize = 10;
+pub(crate) const FLIP: usize = 10;
 
 pub(crate) const SET: usize = 11;
 
@@ -41,24 +43,20 @@ pub(crate) const RUN: usize = 18;
 
 pub(crate) const HELP: usize = 19;
 
-// Numbers of lines that are no command, and the number of the commands.
-pub(crate) const UNKNOWN: usize = 20;
-
-pub(crate) const COMMENT: usize = 21;
-
-const NOTHING: usize = 22;
+// The number of the commands, for a line that is none.
+pub(crate) const NOTHING: usize = 20;
 
 const TEXT: [u8; 1511] = *b"check LOG PLACE                 the block check at a place
 find LOG PLACE                  the first accepted block at or after a place
 list LOG                        place, number, count and polarity of each block
 read LOG PLACE                  every field of the block at a place
 words LOG PLACE                 the ten words of the block at a place
+feed LOG PLACE SATELLITE        feeds the block at a place to the collector
+feed-all LOG SATELLITE          feeds every block of a log
 word BITS                       a word: 32 digits, the two bits before it first
 write KIND VALUE.. [inverted]   the block of a record
 invert written                  swaps 0 and 1 in the block
 flip written INDEX              flips one bit of the block, 0 to 301
-feed LOG PLACE SATELLITE        feeds the block at a place to the collector
-feed-all LOG SATELLITE          feeds every block of a log
 set N                           the orbit set of satellite N
 almanac N                       the almanac page of SV ID N
 utc                             the UTC page
@@ -83,28 +81,43 @@ pub(crate) fn print_help() {
     console::print(&text);
 }
 
-// The number of the command that the first word of a line names. An empty line does nothing.
+// The number of the command that the first word of a line names. A comment is copied, an empty line does nothing, and of any other line the
+// message says that it is no command.
 pub(crate) fn command_in(line: &[u8]) -> usize {
     let name = lines::word(line, 0);
     if name.len() == 0 {
         return NOTHING;
     }
     if name[0] == b'#' {
-        return COMMENT;
+        console::print(line);
+        console::end_line();
+        return NOTHING;
     }
     let text = text();
-    lines::named(&text, name, 0, UNKNOWN)
+    let command = lines::named(&text, name, 0, NOTHING);
+    if command == NOTHING {
+        complain(NO_COMMAND, line);
+    }
+    command
 }
 
-pub(crate) fn is_question(command: usize) -> bool {
-    SET <= command && command <= TIME
-}
-
-// How many numbers follow the name of a command, or its log.
-pub(crate) fn number_count(command: usize) -> usize {
+// The word at which the numbers of a command begin: after its log, file or digits, or else after its name.
+pub(crate) fn first_number(command: usize) -> usize {
     match command {
-        LIST | UTC => 0,
+        SET..=FORGET | HELP => 1,
+        _ => 2,
+    }
+}
+
+// How many numbers a command takes. A record at word 1 stands in place of them.
+pub(crate) fn number_count(command: usize, record: usize) -> usize {
+    if record == 1 {
+        return 0;
+    }
+    match command {
         FEED | TIME => 2,
-        _ => 1,
+        LIST | UTC => 0,
+        CHECK..=FEED_ALL | FLIP..=ACCURACY => 1,
+        _ => 0,
     }
 }

@@ -4,7 +4,7 @@ use crate::messages::LINE_TOO_LONG;
 use crate::messages::NOT_READ;
 use crate::messages::TOO_MANY_FILES;
 use crate::messages::complain;
-use crate::numbers::ends;
+use crate::request::Request;
 use console::Line;
 use console::LineEnd;
 ghost use Rattle.io.specs.Counts.{Counts};
@@ -114,8 +114,8 @@ fn run(inputs: Inputs, line: &[u8]) -> Inputs {
 }
 
 // The inputs after a command.
-pub(crate) fn inputs_after(inputs: Inputs, command: usize, line: &[u8]) -> Inputs {
-    if command == RUN && ends(line, 2) {
+pub(crate) fn inputs_after(inputs: Inputs, request: Request, line: &[u8]) -> Inputs {
+    if request.command == RUN {
         return run(inputs, line);
     }
     inputs

@@ -1,16 +1,15 @@
-// The questions to the collector, and those about a record that stands on the line.
+// The commands that keep what is held and need no log: the questions to the collector, and those about a record that stands on the line.
 use crate::given::given_of_kind;
-use crate::given::is_kind;
-use crate::help::ACCURACY;
 use crate::help::ALMANAC;
 use crate::help::CLOCK;
+use crate::help::HELP;
 use crate::help::SET;
 use crate::help::TIME;
 use crate::help::UTC;
-use crate::help::number_count;
-use crate::numbers::Numbers;
-use crate::numbers::last_numbers;
-use crate::numbers::numbers_at;
+use crate::help::WORD;
+use crate::help::print_help;
+use crate::request::Request;
+use crate::window::word;
 use collector::Collector;
 use console::print_refusal;
 use from_values::GivenSubframe1;
@@ -31,19 +30,21 @@ fn print_of_set(command: usize, set: GivenSet) {
     }
 }
 
-fn print_of_page(command: usize, page: GivenUtc, n: Numbers) {
+fn print_of_page(request: Request, page: GivenUtc) {
+    let command = request.command;
     match command {
         UTC => commands::print_utc(page),
-        _ => commands::print_time(page, n.first, n.second),
+        _ => commands::print_time(page, request.first, request.second),
     }
 }
 
 // Asks the collector.
-fn ask_held(c: Collector, command: usize, n: Numbers) {
-    let number = n.first as usize;
+fn ask_held(c: Collector, request: Request) {
+    let number = request.first as usize;
+    let command = request.command;
     match command {
         ALMANAC => commands::print_almanac(c.almanac(number)),
-        UTC | TIME => print_of_page(command, c.utc_page(), n),
+        UTC | TIME => print_of_page(request, c.utc_page()),
         _ => print_of_set(command, c.set(number)),
     }
 }
@@ -68,38 +69,35 @@ fn ask_of_subframe1(command: usize, line: &[u8]) {
 }
 
 // Asks for the time by the UTC page that stands on the line, after week and second.
-fn ask_of_page(line: &[u8]) {
-    let n = numbers_at(line, 1, 2);
-    if !n.are_right {
-        return;
-    }
+fn ask_of_page(request: Request, line: &[u8]) {
     let given = given_of_kind(line, 3, UTC_PAGE);
     if !given.are_right {
         return;
     }
     let values = given.values;
     match from_values::utc_page_with(&values) {
-        GivenUtcPage::Given(page) => commands::print_time_by(page, n.first, n.second),
+        GivenUtcPage::Given(page) => commands::print_time_by(page, request.first, request.second),
         GivenUtcPage::Refused(refusal) => print_refusal(refusal),
     }
 }
 
-fn is_of_subframe1(command: usize) -> bool {
-    command == CLOCK || command == ACCURACY
+// Asks a question: of the record on the line, or else the collector.
+fn ask(c: Collector, request: Request, line: &[u8]) {
+    let record = request.record;
+    match record {
+        0 => ask_held(c, request),
+        1 => ask_of_subframe1(request.command, line),
+        _ => ask_of_page(request, line),
+    }
 }
 
-// Asks a question: of the record on the line, or else the collector.
-pub(crate) fn ask(c: Collector, command: usize, line: &[u8]) {
-    if is_of_subframe1(command) && is_kind(line, 1) {
-        ask_of_subframe1(command, line);
-        return;
-    }
-    if command == TIME && is_kind(line, 3) {
-        ask_of_page(line);
-        return;
-    }
-    let n = last_numbers(line, 1, number_count(command));
-    if n.are_right {
-        ask_held(c, command, n);
+// Answers a command that keeps what is held and needs no log.
+pub(crate) fn answer(c: Collector, request: Request, line: &[u8]) {
+    let command = request.command;
+    match command {
+        WORD => word(line),
+        SET..=TIME => ask(c, request, line),
+        HELP => print_help(),
+        _ => {}
     }
 }

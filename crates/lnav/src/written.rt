@@ -7,8 +7,8 @@ use crate::messages::NO_BIT;
 use crate::messages::NOT_CHANGED;
 use crate::messages::NOT_WRITTEN;
 use crate::messages::complain;
-use crate::numbers::ends;
-use crate::numbers::last_numbers;
+use crate::request::Request;
+use crate::request::ends;
 use answer::Checked;
 use block::Polarity;
 use console::end_line;
@@ -124,9 +124,6 @@ fn can_change(block: Block, line: &[u8]) -> bool {
 
 // The block with 0 and 1 swapped.
 fn invert(line: &[u8], block: Block) -> Block {
-    if !ends(line, 2) {
-        return block;
-    }
     if !can_change(block, line) {
         return block;
     }
@@ -134,16 +131,12 @@ fn invert(line: &[u8], block: Block) -> Block {
     shown(inverse(bits))
 }
 
-// The block with the bit flipped whose index is word 2.
-fn flip(line: &[u8], block: Block) -> Block {
-    let index = last_numbers(line, 2, 1);
-    if !index.are_right {
-        return block;
-    }
+// The block with the bit flipped that has this index.
+fn flip(line: &[u8], block: Block, index: u64) -> Block {
     if !can_change(block, line) {
         return block;
     }
-    let i = index.first as usize;
+    let i = index as usize;
     if 301 < i {
         complain(NO_BIT, line);
         return block;
@@ -154,11 +147,12 @@ fn flip(line: &[u8], block: Block) -> Block {
 }
 
 // The block after a command.
-pub(crate) fn written_after(block: Block, command: usize, line: &[u8]) -> Block {
+pub(crate) fn written_after(block: Block, request: Request, line: &[u8]) -> Block {
+    let command = request.command;
     match command {
         WRITE => write(line, block),
         INVERT => invert(line, block),
-        FLIP => flip(line, block),
+        FLIP => flip(line, block, request.first),
         _ => block,
     }
 }

@@ -13,13 +13,10 @@ use record::Record;
 
 // The line of field i of a kind.
 fn field_line(kind: usize, i: usize) -> usize {
-    if 6 < kind {
-        return i;
-    }
     if i < 6 {
         return i;
     }
-    std::num::wrapping_add_usize(FIRST[kind], i - 6)
+    std::num::wrapping_add_usize(FIRST[kind % 8], i - 6)
 }
 
 // Prints the value of a number by its field's scale and unit, where it has them.
@@ -61,12 +58,9 @@ fn print_field(kind: usize, i: usize, number: i64, is_long: bool) {
 }
 
 fn print_numbers(kind: usize, numbers: [i64; 25], is_long: bool) {
-    if 6 < kind {
-        return;
-    }
     let mut i: usize = 0;
     while i < 25 {
-        if COUNT[kind] <= i {
+        if COUNT[kind % 8] <= i {
             return;
         }
         print_field(kind, i, numbers[i], is_long);

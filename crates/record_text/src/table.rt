@@ -9,11 +9,11 @@ utc
 other
 ";
 
-// The first line of each kind's own fields among FIELDS. There is no kind 0.
-pub const FIRST: [usize; 7] = [0, 6, 22, 33, 42, 55, 74];
+// The first line of each kind's own fields among FIELDS. There is no kind 0 and no kind 7.
+pub const FIRST: [usize; 8] = [0, 6, 22, 33, 42, 55, 74, 0];
 
 // How many fields a kind has, with the six of the header.
-pub const COUNT: [usize; 7] = [0, 22, 17, 15, 19, 25, 16];
+pub const COUNT: [usize; 8] = [0, 22, 17, 15, 19, 25, 16, 0];
 
 // A line for each field: its name, and, where document 01 gives a scale, the scale and the unit (document 000, Tables 20-I, 20-III, 20-VI and
 // 20-IX). A scale -k stands for 2^-k. The fields of the header come first, then those of kind 1, of kind 2 and so on, each in the order of its struct.

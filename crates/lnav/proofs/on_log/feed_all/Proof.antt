@@ -4,8 +4,8 @@ use native.Mathlib.Omega.{arith}
 use borrow.Author.Needs.{needs}
 use lib.ListN.{length}
 use Rattle.search.specs.laws.Search.{found-inside}
-use Rattle.lnav.proofs.feeds.feed_all.Statement.{statement}
-use Rattle.lnav.proofs.feeds.feed_all.Tie as tie
+use Rattle.lnav.proofs.on_log.feed_all.Statement.{statement}
+use Rattle.lnav.proofs.on_log.feed_all.Tie as tie
 
 abbrev Inv-loop : tie.InvT-loop
 Inv-loop log satellite c₀ p₀ c p = Unit {0}

@@ -2,8 +2,8 @@
 use Prim.Native.Nat.{_-_}
 use borrow.Author.Needs.{needs}
 use lib.ListN.{length}
-use Rattle.lnav.proofs.answers.are_bits.Statement.{statement}
-use Rattle.lnav.proofs.answers.are_bits.Tie as tie
+use Rattle.lnav.proofs.window.are_bits.Statement.{statement}
+use Rattle.lnav.proofs.window.are_bits.Tie as tie
 
 abbrev Inv-loop : tie.InvT-loop
 Inv-loop digits i₀ i = Unit {0}

@@ -1,12 +1,33 @@
-// Feeds, each with a line of answer.
+// The commands on a log: what is asked of it, and feeds, each with a line of answer.
+use crate::help::CHECK;
 use crate::help::FEED;
-use crate::help::number_count;
+use crate::help::FEED_ALL;
+use crate::help::FIND;
+use crate::help::LIST;
+use crate::help::READ;
 use crate::logs::put_log;
-use crate::numbers::last_numbers;
+use crate::request::Request;
 use crate::written::Block;
 use collector::Collector;
 use console::print_refusal;
 use search::Found;
+
+// Document 01's listing.
+fn list(log: &[u8]) {
+    let mut text = io::buffer();
+    let n = listing_text::list(log, &mut text);
+    console::print(&text[..n]);
+}
+
+fn answer_on(command: usize, log: &[u8], place: usize) {
+    match command {
+        CHECK => commands::check(log, place),
+        FIND => commands::find(log, place),
+        LIST => list(log),
+        READ => commands::read(log, place),
+        _ => commands::words(log, place),
+    }
+}
 
 // Feeds the block at place p, prints the answer, and gives the collector after it.
 fn feed(c: Collector, log: &[u8], p: usize, satellite: usize) -> Collector {
@@ -35,21 +56,23 @@ fn feed_all(first: Collector, log: &[u8], satellite: usize) -> Collector {
     }
 }
 
-// Feeds from the log that a line names: the block at a place, or all.
-pub(crate) fn feed_from_log(c: Collector, command: usize, line: &[u8], block: Block) -> Collector {
-    let numbers = last_numbers(line, 2, number_count(command));
-    if !numbers.are_right {
-        return c;
-    }
+// Does a command on the log that the line names, and gives the collector after it.
+pub(crate) fn on_log(c: Collector, request: Request, line: &[u8], block: Block) -> Collector {
     let mut log = console::log_buffer();
     let input = put_log(line, block, &mut log);
     if input.failed {
         return c;
     }
     let length = input.length;
-    let first = numbers.first as usize;
-    if command == FEED {
-        return feed(c, &log[..length], first, numbers.second as usize);
+    let log = &log[..length];
+    let first = request.first as usize;
+    let command = request.command;
+    match command {
+        FEED => feed(c, log, first, request.second as usize),
+        FEED_ALL => feed_all(c, log, first),
+        _ => {
+            answer_on(command, log, first);
+            c
+        }
     }
-    feed_all(c, &log[..length], first)
 }
