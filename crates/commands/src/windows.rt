@@ -2,17 +2,16 @@
 use answer::Checked;
 use console::end_line;
 use console::print;
+use console::print_bits;
 use console::print_number;
 use console::print_refusal;
 use console::space;
 
 // Prints the 24 binary digits of a number, the highest first.
-fn print_source(bits: u32) {
-    let mut left: u32 = 24;
-    while left > 0 {
-        left -= 1;
-        print_number(((bits >> left) % 2) as u64);
-    }
+fn print_source(source: u32) {
+    let mut bits = [0u8; 24];
+    text::put_bits(&mut bits, 0, 24, source);
+    print_bits(&bits);
 }
 
 // Whether a window's word passes, and its source bits.

@@ -1,17 +1,7 @@
-// What programs print, and the lines, files and arguments that they read.
-mod files;
-mod input;
+// What programs print.
 mod output;
 mod refusals;
 
-pub use files::Input;
-pub use files::log_buffer;
-pub use files::read_file;
-pub use files::read_log;
-pub use input::Line;
-pub use input::LineEnd;
-pub use input::arguments;
-pub use input::read_line;
 pub use output::complain;
 pub use output::end_line;
 pub use output::print;

@@ -43,17 +43,16 @@ pub fn print_signed(z: i64) {
     print_number(integers::absolute(z));
 }
 
-fn print_bit(bit: u8) {
-    print_number(bit as u64);
-}
-
-// Prints bits as digits.
+// Prints bits as digits, up to 4,096.
 pub fn print_bits(bits: &[u8]) {
+    let mut digits = io::buffer();
+    let mut n: usize = 0;
     let mut i: usize = 0;
     while i < bits.len() {
-        print_bit(bits[i]);
+        n = text::put_byte(&mut digits, n, std::num::wrapping_add_u8(b'0', bits[i]));
         i += 1;
     }
+    print(&digits[0..n]);
 }
 
 // A message and the line that it is about, on standard error.

@@ -1,9 +1,8 @@
--- Definitions. The leap moment of a UTC page, as seen from a full week (document 01, 'GPS second to UTC').
+-- Definitions. The leap moment that WNLSF and DN of a UTC page give, as seen from a full week (document 01, 'GPS second to UTC').
 use Prim.Native.Nat.{ℕ, _%_}
 use lib.IntN.{ℤ, pos, _+ℤ_, _-ℤ_, _*ℤ_}
 use Rattle.integers.specs.Whole.{modulo}
 use Rattle.layout.specs.Field.{signed}
-use Rattle.record.specs.declared.record.UtcPage.{UtcPage}
 
 -- the eight-bit difference: WNLSF less the week's low eight bits, modulo 256, read as -128 to 127
 unfoldable pub weekDifference : ℕ → ℕ → ℤ
@@ -14,5 +13,5 @@ unfoldable pub leapWeek : ℕ → ℕ → ℤ
 leapWeek wnlsf week = pos week +ℤ weekDifference wnlsf week
 
 -- the leap moment E, in seconds from the start of week 0: the leap week's start plus DN days
-unfoldable pub leapMoment : UtcPage → ℕ → ℤ
-leapMoment page week = leapWeek (page .wnlsf) week *ℤ pos 604800 +ℤ pos (page .dn) *ℤ pos 86400
+unfoldable pub leapMoment : ℕ → ℕ → ℕ → ℤ
+leapMoment wnlsf dn week = leapWeek wnlsf week *ℤ pos 604800 +ℤ pos dn *ℤ pos 86400

@@ -1,5 +1,4 @@
-// The leap moment of a UTC page, as seen from a full week.
-use record::UtcPage;
+// The leap moment that WNLSF and DN of a UTC page give, as seen from a full week.
 ghost use mathlib.Core.Path.{_≡_};
 ghost use Rattle.layout.specs.Field.{signed};
 ghost use Rattle.leap.specs.Leap.{weekDifference, leapMoment};
@@ -21,9 +20,9 @@ pub fn week_difference(wnlsf: u32, week: u32) -> i64
 }
 
 // The leap moment, in seconds from the start of week 0. It may lie before it.
-pub fn leap_moment(page: UtcPage, week: u32) -> i64
-    ensures { λ r. ⌜ r ≡ leapMoment page week ⌝ }
+pub fn leap_moment(wnlsf: u32, dn: u32, week: u32) -> i64
+    ensures { λ r. ⌜ r ≡ leapMoment wnlsf dn week ⌝ }
 {
-    let leap_week = (week as i64) + week_difference(page.wnlsf, week);
-    leap_week * 604800 + (page.dn as i64) * 86400
+    let leap_week = (week as i64) + week_difference(wnlsf, week);
+    leap_week * 604800 + (dn as i64) * 86400
 }

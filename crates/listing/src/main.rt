@@ -13,8 +13,8 @@ fn print_listing(log: &[u8]) {
 }
 
 fn main() {
-    let mut log = console::log_buffer();
-    let input = console::read_log(STDIN_FILENO, &mut log);
+    let mut log = input::log_buffer();
+    let input = input::read_log(STDIN_FILENO, &mut log);
     if input.failed {
         os::fail(b"standard input");
         return;

@@ -5,8 +5,8 @@ use crate::messages::NOT_READ;
 use crate::messages::TOO_MANY_FILES;
 use crate::messages::complain;
 use crate::request::Request;
-use console::Line;
-use console::LineEnd;
+use input::Line;
+use input::LineEnd;
 ghost use Rattle.io.specs.Counts.{Counts};
 
 // Stands for a descriptor: the program's arguments are an input of one line.
@@ -44,11 +44,11 @@ pub(crate) fn next_line(inputs: Inputs, buf: &mut [u8]) -> Line
     let fd = current(inputs);
     if fd == ARGUMENTS {
         return Line {
-            length: console::arguments(buf),
+            length: input::arguments(buf),
             end: LineEnd::End,
         };
     }
-    let line = console::read_line(fd, buf);
+    let line = input::read_line(fd, buf);
     let n = line.length;
     let end = line.end;
     match end {
@@ -63,9 +63,12 @@ pub(crate) fn next_line(inputs: Inputs, buf: &mut [u8]) -> Line
     }
 }
 
-// The inputs without the last.
-fn closed(inputs: Inputs) -> Inputs {
+// The inputs after a line was read: at the end of one, the one before it goes on.
+pub(crate) fn after_line(inputs: Inputs, end: LineEnd) -> Inputs {
     let depth = inputs.depth;
+    let LineEnd::End = end else {
+        return inputs;
+    };
     if depth == 0 {
         return inputs;
     }
@@ -77,31 +80,11 @@ fn closed(inputs: Inputs) -> Inputs {
     }
 }
 
-// The inputs after a line was read: at the end of one, the one before it goes on.
-pub(crate) fn after_line(inputs: Inputs, end: LineEnd) -> Inputs {
-    match end {
-        LineEnd::End => closed(inputs),
-        _ => inputs,
-    }
-}
-
-// The inputs with another one, where there is room.
-fn opened(inputs: Inputs, fd: i32) -> Inputs {
+// The inputs with the file that a line runs: its lines are done before those that are left.
+fn run(inputs: Inputs, line: &[u8]) -> Inputs {
     let depth = inputs.depth;
     let mut descriptors = inputs.descriptors;
     if 7 < depth {
-        return inputs;
-    }
-    descriptors[depth] = fd;
-    Inputs {
-        descriptors,
-        depth: depth + 1,
-    }
-}
-
-// The inputs with the file that a line runs: its lines are done before those that are left.
-fn run(inputs: Inputs, line: &[u8]) -> Inputs {
-    if 7 < inputs.depth {
         complain(TOO_MANY_FILES, line);
         return inputs;
     }
@@ -110,7 +93,11 @@ fn run(inputs: Inputs, line: &[u8]) -> Inputs {
         complain(NOT_READ, line);
         return inputs;
     }
-    opened(inputs, fd)
+    descriptors[depth] = fd;
+    Inputs {
+        descriptors,
+        depth: depth + 1,
+    }
 }
 
 // The inputs after a command.

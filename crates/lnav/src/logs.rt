@@ -3,7 +3,7 @@ use crate::messages::NOT_READ;
 use crate::messages::NOT_WRITTEN;
 use crate::messages::complain;
 use crate::written::Block;
-use console::Input;
+use input::Input;
 ghost use Rattle.io.specs.Counts.{Counts};
 
 // Puts the block that was written last into the buffer.
@@ -33,7 +33,7 @@ pub(crate) fn put_log(line: &[u8], block: Block, buf: &mut [u8]) -> Input
     if lines::same(name, b"written") {
         return put_written(line, block, buf);
     }
-    let input = console::read_file(name, buf);
+    let input = input::read_file(name, buf);
     if input.failed {
         complain(NOT_READ, line);
     }

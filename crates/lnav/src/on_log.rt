@@ -58,7 +58,7 @@ fn feed_all(first: Collector, log: &[u8], satellite: usize) -> Collector {
 
 // Does a command on the log that the line names, and gives the collector after it.
 pub(crate) fn on_log(c: Collector, request: Request, line: &[u8], block: Block) -> Collector {
-    let mut log = console::log_buffer();
+    let mut log = input::log_buffer();
     let input = put_log(line, block, &mut log);
     if input.failed {
         return c;

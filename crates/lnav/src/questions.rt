@@ -1,5 +1,6 @@
 // The commands that keep what is held and need no log: the questions to the collector, and those about a record that stands on the line.
 use crate::given::given_of_kind;
+use crate::help::ACCURACY;
 use crate::help::ALMANAC;
 use crate::help::CLOCK;
 use crate::help::HELP;
@@ -14,38 +15,23 @@ use collector::Collector;
 use console::print_refusal;
 use from_values::GivenSubframe1;
 use from_values::GivenUtcPage;
-use orbit_set::GivenSet;
-use pages::GivenUtc;
 
 // The numbers of the kinds that questions take.
 const SUBFRAME1: usize = 1;
 
 const UTC_PAGE: usize = 5;
 
-fn print_of_set(command: usize, set: GivenSet) {
-    match command {
-        SET => commands::print_set(set),
-        CLOCK => commands::print_clock(set),
-        _ => commands::print_accuracy(set),
-    }
-}
-
-fn print_of_page(request: Request, page: GivenUtc) {
-    let command = request.command;
-    match command {
-        UTC => commands::print_utc(page),
-        _ => commands::print_time(page, request.first, request.second),
-    }
-}
-
 // Asks the collector.
 fn ask_held(c: Collector, request: Request) {
     let number = request.first as usize;
     let command = request.command;
     match command {
+        SET => commands::print_set(c.set(number)),
         ALMANAC => commands::print_almanac(c.almanac(number)),
-        UTC | TIME => print_of_page(request, c.utc_page()),
-        _ => print_of_set(command, c.set(number)),
+        UTC => commands::print_utc(c.utc_page()),
+        CLOCK => commands::print_clock(c.set(number)),
+        ACCURACY => commands::print_accuracy(c.set(number)),
+        _ => commands::print_time(c.utc_page(), request.first, request.second),
     }
 }
 

@@ -26,7 +26,7 @@ gpsTime week second = pos (week * 604800 + second)
 
 -- dtLS before the leap moment, dtLSF from it on
 unfoldable pub offsetAt : UtcPage → ℕ → ℕ → ℤ
-offsetAt page week second = cond (ltZ (gpsTime week second) (leapMoment page week)) (page .dtls) (page .dtlsf)
+offsetAt page week second = cond (ltZ (gpsTime week second) (leapMoment (page .wnlsf) (page .dn) week)) (page .dtls) (page .dtlsf)
 
 -- GPS time less the offset, modulo a day
 unfoldable pub secondOfDay : UtcPage → ℕ → ℕ → ℕ

@@ -49,7 +49,7 @@ fn gps_time(week: u32, second: u32) -> i64
 fn offset_at(page: UtcPage, week: u32, second: u32) -> i32
     ensures { λ r. ⌜ r ≡ offsetAt page week second ⌝ }
 {
-    if gps_time(week, second) < leap_moment(page, week) {
+    if gps_time(week, second) < leap_moment(page.wnlsf, page.dn, week) {
         page.dtls
     } else {
         page.dtlsf

@@ -8,7 +8,6 @@ use lib.IntN.{pos, _+ℤ_, _*ℤ_}
 use mir.Syntax.{w64}
 use mir.Val.{toZ, ofZ}
 use Rattle.integers.specs.laws.Machine.{Small, natural, literal, sum, product, stored, fits-of}
-use Rattle.record.specs.declared.record.UtcPage.{UtcPage}
 use Rattle.leap.specs.Leap.{leapWeek, leapMoment}
 use Rattle.leap.specs.laws.Leap.{difference-size}
 use Rattle.leap.proofs.leap_moment.Statement.{statement}
@@ -18,35 +17,38 @@ of-32-bits : (n : ℕ) → n < 4294967296 → n ≤ 4294967295
 of-32-bits n h = omega arith
 
 module _ (c : tie.After-week-difference) where
-  abbrev page : UtcPage
-  page = c .before .args .page
+  abbrev wnlsf : ℕ
+  wnlsf = c .before .args .wnlsf
+
+  abbrev dn : ℕ
+  dn = c .before .args .dn
 
   abbrev week : ℕ
   week = c .before .args .week
 
-  week-is : Small (toZ w64 week +ℤ toZ w64 (ofZ w64 (c .week-difference .result))) (leapWeek (page .wnlsf) week) 4294967423
+  week-is : Small (toZ w64 week +ℤ toZ w64 (ofZ w64 (c .week-difference .result))) (leapWeek wnlsf week) 4294967423
   unfolding leapWeek
   week-is =
       sum (natural w64 week 4294967295 (of-32-bits week (c .before .fits .week .fits)) (lit< tt))
-      (stored w64 (record { is = c .week-difference .ensures; le = difference-size (page .wnlsf) week }) (lit< tt))
+      (stored w64 (record { is = c .week-difference .ensures; le = difference-size wnlsf week }) (lit< tt))
 
-  start-is : Small (toZ w64 (ofZ w64 (toZ w64 week +ℤ toZ w64 (ofZ w64 (c .week-difference .result)))) *ℤ pos 604800) (leapWeek (page .wnlsf) week *ℤ pos 604800) 2597596297430400
+  start-is : Small (toZ w64 (ofZ w64 (toZ w64 week +ℤ toZ w64 (ofZ w64 (c .week-difference .result)))) *ℤ pos 604800) (leapWeek wnlsf week *ℤ pos 604800) 2597596297430400
   start-is = product (stored w64 week-is (lit< tt)) (literal 604800)
 
-  dn-le : page .dn ≤ 4294967295
-  dn-le = of-32-bits (page .dn) (search needs)
+  dn-le : dn ≤ 4294967295
+  dn-le = of-32-bits dn (c .before .fits .dn .fits)
 
-  days-is : Small (toZ w64 (page .dn) *ℤ pos 86400) (pos (page .dn) *ℤ pos 86400) 371085174288000
-  days-is = product (natural w64 (page .dn) 4294967295 dn-le (lit< tt)) (literal 86400)
+  days-is : Small (toZ w64 dn *ℤ pos 86400) (pos dn *ℤ pos 86400) 371085174288000
+  days-is = product (natural w64 dn 4294967295 dn-le (lit< tt)) (literal 86400)
 
   moment-is :
-      Small (toZ w64 (ofZ w64 (toZ w64 (ofZ w64 (toZ w64 week +ℤ toZ w64 (ofZ w64 (c .week-difference .result)))) *ℤ pos 604800)) +ℤ toZ w64 (ofZ w64 (toZ w64 (page .dn) *ℤ pos 86400)))
-      (leapMoment page week) 2968681471718400
+      Small (toZ w64 (ofZ w64 (toZ w64 (ofZ w64 (toZ w64 week +ℤ toZ w64 (ofZ w64 (c .week-difference .result)))) *ℤ pos 604800)) +ℤ toZ w64 (ofZ w64 (toZ w64 dn *ℤ pos 86400)))
+      (leapMoment wnlsf dn week) 2968681471718400
   unfolding leapMoment
   moment-is = sum (stored w64 start-is (lit< tt)) (stored w64 days-is (lit< tt))
 
 pub leap-moment-spec : {M : Type 1} → statement M
 leap-moment-spec =
     tie.close
-    (tie.spec (λ c. search needs) (λ c κs. search needs) (λ c. fits-of w64 (week-is c) (lit< tt)) (λ c. fits-of w64 (start-is c) (lit< tt)) (λ c. record { sfits = lt-of-le-of-lt (dn-le (c .before)) (lit< tt) })
-    (λ c. fits-of w64 (days-is (c .before)) (lit< tt)) (λ c. fits-of w64 (moment-is (c .before)) (lit< tt)) (λ c. stored w64 (moment-is (c .before)) (lit< tt) .is))
+    (tie.spec (λ c. search needs) (λ c κs. search needs) (λ c. fits-of w64 (week-is c) (lit< tt)) (λ c. fits-of w64 (start-is c) (lit< tt)) (λ c. record { sfits = lt-of-le-of-lt (dn-le c) (lit< tt) })
+    (λ c. fits-of w64 (days-is c) (lit< tt)) (λ c. fits-of w64 (moment-is c) (lit< tt)) (λ c. stored w64 (moment-is c) (lit< tt) .is))

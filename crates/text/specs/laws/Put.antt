@@ -9,7 +9,7 @@ use lib.ListN.{length, set, drop, length-append}
 use lib.Seq.{sets, sets-eq, set-out, length-sets, drop-length}
 use Rattle.finite.specs.Least.{least}
 use Rattle.finite.specs.Tabulate.{tabulate}
-use Rattle.finite.specs.laws.Least.{least-left, least-right}
+use Rattle.finite.specs.laws.Least.{least-left, least-right, least-le}
 use Rattle.finite.specs.laws.Tabulate.{tabulate-length, tabulate-same, tabulate-more}
 use Rattle.text.specs.Put.{Put}
 
@@ -51,6 +51,10 @@ put-out s at a h = record { holds = sym (sets-out a s at h); end = omega (arith,
 module _ {s t : List ℕ} {at end : ℕ} {a : List ℕ} (p : Put s at a t end) where
   pub put-length : length t ≡ length s
   put-length = ap length (p .holds) ∙ length-sets s at a
+
+  -- what is put from an index in the list on ends in the list
+  pub put-inside : at ≤ length s → end ≤ length t
+  put-inside h = omega (arith, p .end, least-le (length a) (length s - at) .1, put-length)
 
   -- bytes that have room
   pub put-end : at + length a ≤ length s → end ≡ at + length a

@@ -38,14 +38,14 @@ module _ (page : UtcPage) (week second : ℕ) where
       (leap-week-127 (page .wnlsf) week (a .decided), leap-week-bits (page .wnlsf) week (page-bytes page (a .taken) .wnlsf-lt))
 
   -- before the leap moment it is GPS time shifted by dtLS, from it on by dtLSF
-  shifted-by : (b : Bool) → ltZ (gpsTime week second) (leapMoment page week) ≡ b → secondOfDay page week second ≡ modulo (gpsTime week second -ℤ cond b (page .dtls) (page .dtlsf)) 86400
+  shifted-by : (b : Bool) → ltZ (gpsTime week second) (leapMoment (page .wnlsf) (page .dn) week) ≡ b → secondOfDay page week second ≡ modulo (gpsTime week second -ℤ cond b (page .dtls) (page .dtlsf)) 86400
   unfolding secondOfDay offsetAt
   shifted-by b e = ap (λ (t : Bool). modulo (gpsTime week second -ℤ cond t (page .dtls) (page .dtlsf)) 86400) e
 
-  pub before-leap : gpsTime week second <ℤ leapMoment page week → secondOfDay page week second ≡ modulo (gpsTime week second -ℤ page .dtls) 86400
+  pub before-leap : gpsTime week second <ℤ leapMoment (page .wnlsf) (page .dn) week → secondOfDay page week second ≡ modulo (gpsTime week second -ℤ page .dtls) 86400
   before-leap h = shifted-by true (is-true _ (h .lt))
 
-  pub from-leap : leapMoment page week ≤ℤ gpsTime week second → secondOfDay page week second ≡ modulo (gpsTime week second -ℤ page .dtlsf) 86400
+  pub from-leap : leapMoment (page .wnlsf) (page .dn) week ≤ℤ gpsTime week second → secondOfDay page week second ≡ modulo (gpsTime week second -ℤ page .dtlsf) 86400
   from-leap h = shifted-by false (is-false _ (λ t. clashℤ (ltZ-yes t) h))
     where
       is-false : (t : Bool) → (T t → ⊥) → t ≡ false

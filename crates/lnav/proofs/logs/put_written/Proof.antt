@@ -1,7 +1,8 @@
 -- `put_written` meets its contract: what it puts ends in the buffer.
 use native.Mathlib.Omega.{arith}
 use borrow.Author.Needs.{needs}
-use Rattle.console.specs.laws.Inside.{counts, put-inside}
+use Rattle.text.specs.laws.Put.{put-inside}
+use Rattle.input.specs.laws.Inside.{counts}
 use Rattle.lnav.proofs.logs.put_written.Statement.{statement}
 use Rattle.lnav.proofs.logs.put_written.Tie as tie
 

@@ -1,9 +1,9 @@
 -- `put_argument` meets its contract: what it puts ends in the buffer.
 use native.Mathlib.Omega.{arith}
 use borrow.Author.Needs.{needs}
-use Rattle.console.specs.laws.Inside.{put-inside}
-use Rattle.console.proofs.input.put_argument.Statement.{statement}
-use Rattle.console.proofs.input.put_argument.Tie as tie
+use Rattle.text.specs.laws.Put.{put-inside}
+use Rattle.input.proofs.command_line.put_argument.Statement.{statement}
+use Rattle.input.proofs.command_line.put_argument.Tie as tie
 
 returns : tie.Need-returns
 returns c = put-inside (c .before .before .put-text .ensures) (omega arith)

@@ -6,8 +6,8 @@ use borrow.Author.Needs.{needs}
 use borrow.Rule.Slice.PartMut.{putMid, same-len-mid}
 use lib.ListN.{length, drop, length-drop}
 use lib.Seq.{length-take-le}
-use Rattle.console.proofs.files.read_log.Statement.{statement}
-use Rattle.console.proofs.files.read_log.Tie as tie
+use Rattle.input.proofs.files.read_log.Statement.{statement}
+use Rattle.input.proofs.files.read_log.Tie as tie
 
 abbrev Inv-loop : tie.InvT-loop
 Inv-loop fd buf₀ done₀ failed₀ buf done failed = (done ≤ length buf) × (length buf ≡ length buf₀)

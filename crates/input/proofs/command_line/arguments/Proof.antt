@@ -3,9 +3,9 @@ use mathlib.Core.Path.{_≡_}
 use Prim.Native.Nat.{_≤_, _-_}
 use borrow.Author.Needs.{needs}
 use lib.ListN.{length}
-use Rattle.console.specs.laws.Inside.{counts}
-use Rattle.console.proofs.input.arguments.Statement.{statement}
-use Rattle.console.proofs.input.arguments.Tie as tie
+use Rattle.input.specs.laws.Inside.{counts}
+use Rattle.input.proofs.command_line.arguments.Statement.{statement}
+use Rattle.input.proofs.command_line.arguments.Tie as tie
 
 abbrev Inv-loop : tie.InvT-loop
 Inv-loop buf₀ count i₀ at₀ buf i at = (at ≤ length buf) × (length buf ≡ length buf₀)

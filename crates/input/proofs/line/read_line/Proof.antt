@@ -4,9 +4,9 @@ use Prim.Native.Nat.{_≤_, _-_}
 use borrow.Author.Needs.{needs}
 use native.Mathlib.Omega.{arith}
 use lib.ListN.{length, length-set}
-use Rattle.console.specs.laws.Inside.{counts}
-use Rattle.console.proofs.input.read_line.Statement.{statement}
-use Rattle.console.proofs.input.read_line.Tie as tie
+use Rattle.input.specs.laws.Inside.{counts}
+use Rattle.input.proofs.line.read_line.Statement.{statement}
+use Rattle.input.proofs.line.read_line.Tie as tie
 
 abbrev Inv-loop : tie.InvT-loop
 Inv-loop fd buf₀ n₀ buf n = (n ≤ length buf) × (length buf ≡ length buf₀)
