@@ -10,145 +10,163 @@ use record::Subframe2;
 use record::Subframe3;
 use record::UtcPage;
 ghost use mathlib.Core.Path.{_≡_};
+ghost use Prim.Native.Nat.{_+_, _≤_};
+ghost use lib.ListN.{length};
+ghost use lib.Seq.{sets};
 ghost use Rattle.values.specs.Values.{valuesOfHeader, valuesOfSubframe1, valuesOfSubframe2, valuesOfSubframe3, valuesOfAlmanac, valuesOfUtc, valuesOfOther, valuesOf};
+
+// The 25 values with others stored from index `at` on.
+fn stored(before: [i64; 25], at: usize, values: &[i64]) -> [i64; 25]
+    requires { ⌜ at + length (now values) ≤ 25 ⌝ }
+    ensures { λ v. ⌜ v ≡ sets before at (now (values .entry)) ⌝ }
+{
+    let mut v = before;
+    let mut i: usize = 0;
+    while i < values.len() {
+        v[at + i] = values[i];
+        i += 1;
+    }
+    v
+}
 
 fn header_values(h: Header) -> [i64; 25]
     ensures { λ v. ⌜ v ≡ valuesOfHeader h ⌝ }
 {
-    let mut v = [0i64; 25];
-    v[0] = natural(h.message);
-    v[1] = natural(h.reserved);
-    v[2] = natural(h.count);
-    v[3] = natural(h.flag18);
-    v[4] = natural(h.flag19);
-    v[5] = natural(h.subframe);
-    v
+    let values = [
+        natural(h.message),
+        natural(h.reserved),
+        natural(h.count),
+        natural(h.flag18),
+        natural(h.flag19),
+        natural(h.subframe),
+    ];
+    stored([0i64; 25], 0, &values)
 }
 
 fn subframe1_values(r: Subframe1) -> [i64; 25]
     ensures { λ v. ⌜ v ≡ valuesOfSubframe1 r ⌝ }
 {
-    let header = r.header;
-    let mut v = header_values(header);
-    v[6] = natural(r.week);
-    v[7] = natural(r.l2_code);
-    v[8] = natural(r.ura);
-    v[9] = natural(r.health);
-    v[10] = natural(r.iodc_high);
-    v[11] = natural(r.l2p_flag);
-    v[12] = natural(r.reserved4);
-    v[13] = natural(r.reserved5);
-    v[14] = natural(r.reserved6);
-    v[15] = natural(r.reserved7);
-    v[16] = whole(r.tgd);
-    v[17] = natural(r.iodc_low);
-    v[18] = natural(r.toc);
-    v[19] = whole(r.af2);
-    v[20] = whole(r.af1);
-    v[21] = whole(r.af0);
-    v
+    let own = [
+        natural(r.week),
+        natural(r.l2_code),
+        natural(r.ura),
+        natural(r.health),
+        natural(r.iodc_high),
+        natural(r.l2p_flag),
+        natural(r.reserved4),
+        natural(r.reserved5),
+        natural(r.reserved6),
+        natural(r.reserved7),
+        whole(r.tgd),
+        natural(r.iodc_low),
+        natural(r.toc),
+        whole(r.af2),
+        whole(r.af1),
+        whole(r.af0),
+    ];
+    stored(header_values(r.header), 6, &own)
 }
 
 fn subframe2_values(r: Subframe2) -> [i64; 25]
     ensures { λ v. ⌜ v ≡ valuesOfSubframe2 r ⌝ }
 {
-    let header = r.header;
-    let mut v = header_values(header);
-    v[6] = natural(r.iode);
-    v[7] = whole(r.crs);
-    v[8] = whole(r.delta_n);
-    v[9] = whole(r.m0);
-    v[10] = whole(r.cuc);
-    v[11] = natural(r.e);
-    v[12] = whole(r.cus);
-    v[13] = natural(r.root_a);
-    v[14] = natural(r.toe);
-    v[15] = natural(r.fit);
-    v[16] = natural(r.aodo);
-    v
+    let own = [
+        natural(r.iode),
+        whole(r.crs),
+        whole(r.delta_n),
+        whole(r.m0),
+        whole(r.cuc),
+        natural(r.e),
+        whole(r.cus),
+        natural(r.root_a),
+        natural(r.toe),
+        natural(r.fit),
+        natural(r.aodo),
+    ];
+    stored(header_values(r.header), 6, &own)
 }
 
 fn subframe3_values(r: Subframe3) -> [i64; 25]
     ensures { λ v. ⌜ v ≡ valuesOfSubframe3 r ⌝ }
 {
-    let header = r.header;
-    let mut v = header_values(header);
-    v[6] = whole(r.cic);
-    v[7] = whole(r.node);
-    v[8] = whole(r.cis);
-    v[9] = whole(r.i0);
-    v[10] = whole(r.crc);
-    v[11] = whole(r.perigee);
-    v[12] = whole(r.node_rate);
-    v[13] = natural(r.iode);
-    v[14] = whole(r.idot);
-    v
+    let own = [
+        whole(r.cic),
+        whole(r.node),
+        whole(r.cis),
+        whole(r.i0),
+        whole(r.crc),
+        whole(r.perigee),
+        whole(r.node_rate),
+        natural(r.iode),
+        whole(r.idot),
+    ];
+    stored(header_values(r.header), 6, &own)
 }
 
 fn almanac_values(r: AlmanacPage) -> [i64; 25]
     ensures { λ v. ⌜ v ≡ valuesOfAlmanac r ⌝ }
 {
-    let header = r.header;
-    let mut v = header_values(header);
-    v[6] = natural(r.data_id);
-    v[7] = natural(r.sv_id);
-    v[8] = natural(r.e);
-    v[9] = natural(r.toa);
-    v[10] = whole(r.delta_i);
-    v[11] = whole(r.node_rate);
-    v[12] = natural(r.health);
-    v[13] = natural(r.root_a);
-    v[14] = whole(r.node);
-    v[15] = whole(r.perigee);
-    v[16] = whole(r.m0);
-    v[17] = whole(r.af0);
-    v[18] = whole(r.af1);
-    v
+    let own = [
+        natural(r.data_id),
+        natural(r.sv_id),
+        natural(r.e),
+        natural(r.toa),
+        whole(r.delta_i),
+        whole(r.node_rate),
+        natural(r.health),
+        natural(r.root_a),
+        whole(r.node),
+        whole(r.perigee),
+        whole(r.m0),
+        whole(r.af0),
+        whole(r.af1),
+    ];
+    stored(header_values(r.header), 6, &own)
 }
 
 fn utc_values(r: UtcPage) -> [i64; 25]
     ensures { λ v. ⌜ v ≡ valuesOfUtc r ⌝ }
 {
-    let header = r.header;
-    let mut v = header_values(header);
-    v[6] = natural(r.data_id);
-    v[7] = natural(r.id);
-    v[8] = whole(r.alpha0);
-    v[9] = whole(r.alpha1);
-    v[10] = whole(r.alpha2);
-    v[11] = whole(r.alpha3);
-    v[12] = whole(r.beta0);
-    v[13] = whole(r.beta1);
-    v[14] = whole(r.beta2);
-    v[15] = whole(r.beta3);
-    v[16] = whole(r.a1);
-    v[17] = whole(r.a0);
-    v[18] = natural(r.tot);
-    v[19] = natural(r.wnt);
-    v[20] = whole(r.dtls);
-    v[21] = natural(r.wnlsf);
-    v[22] = natural(r.dn);
-    v[23] = whole(r.dtlsf);
-    v[24] = natural(r.reserved10);
-    v
+    let own = [
+        natural(r.data_id),
+        natural(r.id),
+        whole(r.alpha0),
+        whole(r.alpha1),
+        whole(r.alpha2),
+        whole(r.alpha3),
+        whole(r.beta0),
+        whole(r.beta1),
+        whole(r.beta2),
+        whole(r.beta3),
+        whole(r.a1),
+        whole(r.a0),
+        natural(r.tot),
+        natural(r.wnt),
+        whole(r.dtls),
+        natural(r.wnlsf),
+        natural(r.dn),
+        whole(r.dtlsf),
+        natural(r.reserved10),
+    ];
+    stored(header_values(r.header), 6, &own)
 }
 
 fn other_values(r: OtherPage) -> [i64; 25]
     ensures { λ v. ⌜ v ≡ valuesOfOther r ⌝ }
 {
-    let header = r.header;
-    let mut v = header_values(header);
-    v[6] = natural(r.data_id);
-    v[7] = natural(r.id);
-    v[8] = natural(r.reserved3);
-    v[9] = natural(r.reserved4);
-    v[10] = natural(r.reserved5);
-    v[11] = natural(r.reserved6);
-    v[12] = natural(r.reserved7);
-    v[13] = natural(r.reserved8);
-    v[14] = natural(r.reserved9);
-    v[15] = natural(r.reserved10);
-    v
+    let own = [
+        natural(r.data_id),
+        natural(r.id),
+        natural(r.reserved3),
+        natural(r.reserved4),
+        natural(r.reserved5),
+        natural(r.reserved6),
+        natural(r.reserved7),
+        natural(r.reserved8),
+        natural(r.reserved9),
+        natural(r.reserved10),
+    ];
+    stored(header_values(r.header), 6, &own)
 }
 
 // The 25 values of a record.
