@@ -1,4 +1,5 @@
 // A record from the numbers that stand in its fields.
+mod fields;
 mod kinds;
 mod signed;
 
