@@ -30,7 +30,7 @@ module _ (c : tie.After-week-difference) where
   unfolding leapWeek
   week-is =
       sum (natural w64 week 4294967295 (of-32-bits week (c .before .fits .week .fits)) (lit< tt))
-      (stored w64 (record { is = c .week-difference .ensures; le = difference-size wnlsf week }) (lit< tt))
+      (stored w64 (record { is = c .week-difference .ensures; le = difference-size _ _ }) (lit< tt))
 
   start-is : Small (toZ w64 (ofZ w64 (toZ w64 week +ℤ toZ w64 (ofZ w64 (c .week-difference .result)))) *ℤ pos 604800) (leapWeek wnlsf week *ℤ pos 604800) 2597596297430400
   start-is = product (stored w64 week-is (lit< tt)) (literal 604800)
