@@ -1,5 +1,7 @@
 -- Definitions. The answer of a call that may refuse (document 01, 'Numbers by the place of the check').
+use mathlib.Core.Path.{_≡_}
 use mathlib.Core.Bool.{Bool, true, false}
+use mathlib.Core.Logic.{_↔_}
 use mathlib.Core.Option.{Option, none, some}
 use Prim.Native.Nat.{ℕ}
 use Rattle.answer.specs.declared.Refusal.{Refusal}
@@ -23,6 +25,10 @@ detail (refused n d) = d
 unfoldable pub isAccepted : {A : Type 0} → Answer A → Bool
 isAccepted (accepted a) = true
 isAccepted (refused n d) = false
+
+-- the number tells by itself whether a call is accepted: it is 0 exactly then
+abbrev pub ByNumber : {A : Type 0} → Answer A → Type 0
+ByNumber a = (number a ≡ 0) ↔ (isAccepted a ≡ true)
 
 -- a line of the table: where its condition holds the call is refused, else the lines below decide
 unfoldable pub refuseIf : {A : Type 0} → Bool → ℕ → ℕ → Answer A → Answer A

@@ -1,2 +1,3 @@
 -- Laws about the definitions of this crate.
 pub mod Lines
+pub mod ByNumber

@@ -2,7 +2,8 @@
 use record::Kind;
 use record::Record;
 ghost use mathlib.Core.Path.{_≡_};
-ghost use Rattle.record.specs.Kind.{isPage, isAlmanac, isUtc, isOther, kindFor};
+ghost use mathlib.Core.Bool.{true};
+ghost use Rattle.record.specs.Kind.{isPage, isAlmanac, isUtc, isOther, isOfKind};
 ghost use Rattle.record.specs.Record.{kindOf};
 ghost use Rattle.record.specs.Writable.{ofItsKind};
 
@@ -58,10 +59,10 @@ fn is_other(subframe: u32, data_id: u32, id: u32) -> bool
     !is_utc(subframe, data_id, id)
 }
 
-// The kind of a subframe by its number, its data ID field and its ID. Only subframes 4 and 5 have the two; numbers outside 1 to 5 are
-// the block check's question.
+// The kind that a subframe is of by its number, its data ID field and its ID; it is of exactly one. Only subframes 4 and 5 have the two; numbers
+// outside 1 to 5 are the block check's question.
 pub fn kind_for(subframe: u32, data_id: u32, id: u32) -> Kind
-    ensures { λ r. ⌜ r ≡ kindFor subframe data_id id ⌝ }
+    ensures { λ r. ⌜ isOfKind r subframe data_id id ≡ true ⌝ }
 {
     if subframe == 1 {
         return Kind::Subframe1;

@@ -23,7 +23,17 @@ isUtc n d i = eqb n 4 && (eqb d 1 && eqb i 56)
 unfoldable pub isOther : ℕ → ℕ → ℕ → Bool
 isOther n d i = isPage n && (not (isAlmanac n d i) && not (isUtc n d i))
 
--- the kind of a subframe whose number is 1 to 5
+-- what makes a subframe one of each kind: document 01's subframe number, and of a page its data ID and ID. What is none of the five before is of the
+-- last, also a subframe number outside 1 to 5, which the block check refuses
+unfoldable pub isOfKind : Kind → ℕ → ℕ → ℕ → Bool
+isOfKind Subframe1 n d i = eqb n 1
+isOfKind Subframe2 n d i = eqb n 2
+isOfKind Subframe3 n d i = eqb n 3
+isOfKind Almanac n d i = isAlmanac n d i
+isOfKind Utc n d i = isUtc n d i
+isOfKind Other n d i = not (eqb n 1) && (not (eqb n 2) && (not (eqb n 3) && (not (isAlmanac n d i) && not (isUtc n d i))))
+
+-- the kind of a subframe
 unfoldable pub kindFor : ℕ → ℕ → ℕ → Kind
 kindFor n d i =
     cond (eqb n 1) Subframe1

@@ -6,3 +6,4 @@ pub mod Held
 pub mod Taken
 pub mod Returned
 pub mod Positions
+pub mod Placed

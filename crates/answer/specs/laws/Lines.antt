@@ -3,7 +3,7 @@ use mathlib.Core.Path.{_≡_, refl, sym, ap, _∙_}
 use mathlib.Core.Bool.{Bool, true, false, false≢true}
 use mathlib.Core.Logic.{_↔_}
 use Prim.Native.Nat.{ℕ}
-use Rattle.answer.specs.Answer.{Answer, accepted, refused, number, detail, isAccepted, refuseIf, whenAccepted, checkedAnswer}
+use Rattle.answer.specs.Answer.{Answer, accepted, refused, isAccepted, refuseIf, whenAccepted, checkedAnswer}
 use Rattle.answer.specs.declared.Refusal.{Refusal}
 use Rattle.answer.specs.declared.Checked.{Checked}
 use Rattle.answer.specs.declared.Checked.the-variants.{Accepted, Refused}
@@ -45,13 +45,6 @@ module _ {A : Type 0} where
   unfolding isAccepted
   isAccepted-false (accepted a) f = absurd (f a refl)
   isAccepted-false (refused n d) f = refl
-
-  -- where no line has number 0, only an accepted answer has
-  pub line-zero : (t : Bool) (n d : ℕ) (below : Answer A) (a : A) → (n ≡ 0 → ⊥) → (number below ≡ 0 → below ≡ accepted a)
-      → number (refuseIf t n d below) ≡ 0 → refuseIf t n d below ≡ accepted a
-  unfolding number refuseIf
-  line-zero true n d below a h f e = absurd (h e)
-  line-zero false n d below a h f e = f e
 
   -- a value given where the checks accept: a refusal stays as it is, and what is accepted is that value, accepted by the checks
   pub when-refused : (n d : ℕ) (a : A) → whenAccepted (refused n d) a ≡ refused n d

@@ -1,32 +1,30 @@
 -- Laws. Acceptance by the number alone, and as a bool.
-use mathlib.Core.Path.{_≡_, refl, ap}
+use mathlib.Core.Path.{_≡_, ap}
 use mathlib.Core.Bool.{true, false}
 use mathlib.Core.List.{List}
 use mathlib.Core.Logic.{_↔_}
 use Prim.Native.Nat.{ℕ}
-use native.Mathlib.Omega.{arith}
-use Rattle.answer.specs.Answer.{number, isAccepted}
-use Rattle.answer.specs.laws.Lines.{line-zero, isAccepted-true, isAccepted-false}
+use Rattle.answer.specs.Answer.{isAccepted, ByNumber}
+use Rattle.answer.specs.laws.ByNumber.{accepted-by-number, line-by-number}
+use Rattle.answer.specs.laws.Lines.{isAccepted-true, isAccepted-false}
 use Rattle.block_check.specs.Check as Check
 use Rattle.block_check.specs.Check.{acceptedAt}
 use Rattle.block_check.specs.Compare.{Accepted}
 
--- the number alone tells whether a block is accepted
-pub number-zero : (s : List ℕ) (p : ℕ) → (number (Check.checkBlock s p) ≡ 0) ↔ Accepted s p
-unfolding Check.checkBlock Check.checkBits Check.checkFields number
-number-zero s p = (
-  line-zero _ _ _ _ tt (λ e. omega arith)
-      (line-zero _ _ _ _ tt (λ e. omega arith)
-      (line-zero _ _ _ _ tt (λ e. omega arith)
-      (line-zero _ _ _ _ tt (λ e. omega arith)
-      (line-zero _ _ _ _ tt (λ e. omega arith)
-      (line-zero _ _ _ _ tt (λ e. omega arith)
-      (line-zero _ _ _ _ tt (λ e. omega arith)
-      (line-zero _ _ _ _ tt (λ e. omega arith)
-      (line-zero _ _ _ _ tt (λ e. omega arith)
-      (line-zero _ _ _ _ tt (λ e. omega arith) (λ e. refl)))))))))),
-  ap number,
-)
+-- the number tells by itself whether a block is accepted
+pub check-by-number : (s : List ℕ) (p : ℕ) → ByNumber (Check.checkBlock s p)
+unfolding Check.checkBlock Check.checkBits Check.checkFields
+check-by-number s p =
+    line-by-number _ 0 _ _
+    (line-by-number _ 2 _ _
+    (line-by-number _ 1 _ _
+    (line-by-number _ 3 _ _
+    (line-by-number _ 4 _ _
+    (line-by-number _ 5 _ _
+    (line-by-number _ 6 _ _
+    (line-by-number _ 6 _ _
+    (line-by-number _ 7 _ _
+    (line-by-number _ 8 _ _ (accepted-by-number tt))))))))))
 
 module _ (s : List ℕ) (p : ℕ) where
   pub acceptedAt-true : (acceptedAt s p ≡ true) ↔ Accepted s p

@@ -4,9 +4,12 @@ use mathlib.Core.Bool.{Bool, true, false, not}
 use mathlib.Core.List.{List}
 use Prim.Native.Nat.{ℕ}
 use Rattle.reader.specs.Reader as Reader
-use Rattle.answer.specs.Answer.{accepted, refused, refuseIf, whenHeld}
+use Rattle.reader.specs.laws.Reader.{read-by-number}
+use Rattle.answer.specs.Answer.{accepted, refused, ByNumber, refuseIf, whenHeld}
+use Rattle.answer.specs.laws.ByNumber.{line-by-number}
 use Rattle.record.specs.declared.record.Record.{Record}
 use Rattle.orbit_set.specs.Set.{setIn}
+use Rattle.orbit_set.specs.laws.Ways.{set-in-by-number}
 use Rattle.satellite_number.specs.Numbers.{isSatellite}
 use Rattle.pages.specs.laws.Ways as Pages
 use Rattle.collector.specs.Held.{heldSubframe1, heldSubframe2, heldSubframe3, heldAlmanac}
@@ -25,6 +28,10 @@ module _ (s : List ℕ) (p n : ℕ) where
   pub feed-reads : isSatellite n ≡ true → Feed.feed s p n ≡ Reader.read s p
   unfolding Feed.feed refuseIf
   feed-reads h = ap (λ (t : Bool). refuseIf (not t) 13 n (Reader.read s p)) h
+
+  pub feed-by-number : ByNumber (Feed.feed s p n)
+  unfolding Feed.feed
+  feed-by-number = line-by-number _ 12 _ _ (read-by-number s p)
 
   module _ (c : Collector) where
     -- a refusal leaves the collector as it was
@@ -47,6 +54,10 @@ module _ (c : Collector) (n : ℕ) where
   unfolding Questions.set refuseIf
   set-held h = rw h
 
+  pub set-by-number : ByNumber (Questions.set c n)
+  unfolding Questions.set
+  set-by-number = line-by-number _ 12 _ _ (set-in-by-number (heldSubframe1 c n) (heldSubframe2 c n) (heldSubframe3 c n))
+
   pub almanac-13 : isSatellite n ≡ false → Questions.almanac c n ≡ refused 13 n
   unfolding Questions.almanac
   almanac-13 h = Pages.almanac-13 (c .pages) n h
@@ -54,3 +65,11 @@ module _ (c : Collector) (n : ℕ) where
   pub almanac-held : isSatellite n ≡ true → Questions.almanac c n ≡ whenHeld (heldAlmanac c n) 20 0 accepted
   unfolding Questions.almanac heldAlmanac
   almanac-held h = Pages.almanac-held (c .pages) n h
+
+  pub almanac-by-number : ByNumber (Questions.almanac c n)
+  unfolding Questions.almanac
+  almanac-by-number = Pages.almanac-by-number (c .pages) n
+
+pub utc-page-by-number : (c : Collector) → ByNumber (Questions.utcPage c)
+unfolding Questions.utcPage
+utc-page-by-number c = Pages.utc-page-by-number (c .pages)

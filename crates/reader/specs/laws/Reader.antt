@@ -7,12 +7,14 @@ use native.Mathlib.Omega.{arith}
 use Rattle.bits.specs.Bits.{bitsAt}
 use Rattle.layout.specs.Field.{readField}
 use Rattle.layout.specs.Layout.{decode}
-use Rattle.answer.specs.Answer.{Answer, accepted, refused, whenAccepted}
+use Rattle.answer.specs.Answer.{Answer, accepted, refused, ByNumber, whenAccepted}
+use Rattle.answer.specs.laws.ByNumber.{when-by-number}
 use Rattle.answer.specs.laws.Lines.{when-refused, when-accepts, answered, answer-injective}
 use Rattle.block_check.specs.Check as Check
 use Rattle.block.specs.Block.{Block, count, subframeNumber, source}
 use Rattle.block_check.specs.Compare.{Accepted}
 use Rattle.block_check.specs.laws.Acceptance.{acceptance}
+use Rattle.block_check.specs.laws.Answers.{check-by-number}
 use Rattle.block.specs.laws.Source.{source-field}
 use Rattle.record.specs.Source.{headerIn, recordOf}
 use Rattle.record.specs.laws.Held.{record-writable}
@@ -43,6 +45,10 @@ module _ (s : List ℕ) (p : ℕ) where
   unfolding Reader.read
   reads-refusal n d h =
       ap (λ (x : Answer (Unit {0})). whenAccepted x (recordOf (source (bitsAt s p)))) h ∙ when-refused n d (recordOf (source (bitsAt s p)))
+
+  pub read-by-number : ByNumber (Reader.read s p)
+  unfolding Reader.read
+  read-by-number = when-by-number (Check.checkBlock s p) (recordOf (source (bitsAt s p))) (check-by-number s p)
 
   -- and only an accepted block is read
   pub read-accepted : (r : Record) → Reader.read s p ≡ accepted r → Accepted s p × (r ≡ recordOf (source (bitsAt s p)))

@@ -10,13 +10,16 @@ use Rattle.bits.specs.Bits.{Bits}
 use Rattle.layout.specs.Field.{readField}
 use Rattle.layout.specs.Layout.{decode, encode, allWithin}
 use Rattle.layout.specs.laws.Layout.{encode-decode, decode-within}
-use Rattle.record.specs.laws.Kind.{kind-cases}
+use Rattle.record.specs.Kind.{isOfKind}
+use Rattle.record.specs.laws.Kind.{other-remaining, kind-cases}
 use Rattle.record.specs.Fields.{headerFields, fieldsOf}
 use Rattle.record.specs.Record.{recordWith, header, headerValues}
 use Rattle.record.specs.laws.Record.{with-header, with-fields}
 use Rattle.record.specs.Source.{headerIn, dataIdIn, idIn, kindIn, recordOf, headerBits, recordBits}
 use Rattle.record.specs.laws.Sound.{header-sound, fields-sound}
 use Rattle.record.specs.Writable.{withinFields, ofItsKind, writable}
+use Rattle.record.specs.declared.kind.Kind.{Kind}
+use Rattle.record.specs.declared.kind.Kind.the-variants.{Subframe1, Subframe2, Subframe3, Almanac, Utc, Other}
 use Rattle.record.specs.declared.record.Header.{Header}
 use Rattle.record.specs.declared.record.Record.{Record}
 
@@ -52,10 +55,17 @@ module _ (s : List ℕ) where
       (with-fields (λ k v. allWithin (fieldsOf k) v ≡ true) (kindIn s) (headerIn s) (decode (fieldsOf (kindIn s)) 48 s) within-record within-record)
 
   of-its-kind : 1 ≤ headerIn s .subframe → headerIn s .subframe ≤ 5 → ofItsKind (recordOf s) ≡ true
-  unfolding recordOf kindIn ofItsKind decode readField dataIdIn idIn
+  unfolding recordOf kindIn isOfKind ofItsKind decode readField dataIdIn idIn
   of-its-kind l h =
-      kind-cases (λ k. ofItsKind (recordWith k (headerIn s) (decode (fieldsOf k) 48 s)) ≡ true) (headerIn s .subframe) (dataIdIn s) (idIn s) l h
-      (λ e. e) (λ e. e) (λ e. e) (λ e. e) (λ e. e) (λ e. e)
+      kind-cases (λ k. ofItsKind (recordWith k (headerIn s) (decode (fieldsOf k) 48 s)) ≡ true) (headerIn s .subframe) (dataIdIn s) (idIn s) go
+    where
+      go : (k : Kind) → isOfKind k (headerIn s .subframe) (dataIdIn s) (idIn s) ≡ true → ofItsKind (recordWith k (headerIn s) (decode (fieldsOf k) 48 s)) ≡ true
+      go Subframe1 e = e
+      go Subframe2 e = e
+      go Subframe3 e = e
+      go Almanac e = e
+      go Utc e = e
+      go Other e = other-remaining (headerIn s .subframe) (dataIdIn s) (idIn s) l h e
 
   pub record-writable : 1 ≤ headerIn s .subframe → headerIn s .subframe ≤ 5 → headerIn s .count ≤ 100799 → writable (recordOf s) ≡ true
   unfolding writable

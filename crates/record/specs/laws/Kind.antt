@@ -1,14 +1,14 @@
--- Laws. The kind that is chosen for a subframe number from 1 to 5 and IDs, case by case, and for the IDs of each kind.
-use mathlib.Core.Path.{_≡_, refl, _∙_}
+-- Laws. The kind that is chosen for a subframe number and IDs: it is the one kind that they are of; case by case, and for the IDs of each kind.
+use mathlib.Core.Path.{_≡_, refl, sym, subst, _∙_}
 use mathlib.Core.Bool.{Bool, true, false, not, cond, _&&_, _||_}
-use mathlib.Core.Logic.{_⊎_, inl, inr, ⊎-elim}
+use mathlib.Core.Logic.{_↔_, _⊎_, inl, inr, ⊎-elim}
 use Prim.Native.Nat.{ℕ, _≤_}
 use native.Mathlib.Omega.{arith}
 use native.Mathlib.Decide.{ℕ-discrete}
 use borrow.Author.Tests.{eqb-true, eqb-false, eq-eqb, not-true}
 use lib.Dec.{eqb, leb}
 use Rattle.finite.specs.laws.Booleans.{and-true, or-true}
-use Rattle.record.specs.Kind.{isPage, isAlmanac, isUtc, isOther, kindFor}
+use Rattle.record.specs.Kind.{isPage, isAlmanac, isUtc, isOther, isOfKind, kindFor}
 use Rattle.record.specs.declared.kind.Kind.{Kind}
 use Rattle.record.specs.declared.kind.Kind.the-variants.{Subframe1, Subframe2, Subframe3, Almanac, Utc, Other}
 
@@ -23,18 +23,25 @@ page n l h a b c = go (ℕ-discrete n 4)
         let five : n ≡ 5 = omega (arith, e, eqb-false n 1 a, eqb-false n 2 b, eqb-false n 3 c) in
         rw (five)
 
--- a property of the chosen kind, from each kind with what it was chosen for
-pub kind-cases : (P : Kind → Type 0) (n d i : ℕ) → 1 ≤ n → n ≤ 5
-    → (eqb n 1 ≡ true → P Subframe1) → (eqb n 2 ≡ true → P Subframe2) → (eqb n 3 ≡ true → P Subframe3)
-    → (isAlmanac n d i ≡ true → P Almanac) → (isUtc n d i ≡ true → P Utc) → (isOther n d i ≡ true → P Other) → P (kindFor n d i)
-unfolding kindFor isOther
-kind-cases P n d i l h one two three almanac utc other =
-    by (eqb n 1) refl one
-    (λ a. by (eqb n 2) refl two
-    (λ b. by (eqb n 3) refl three
-    (λ c. by (isAlmanac n d i) refl almanac
-    (λ no-almanac. by (isUtc n d i) refl utc
-    (λ no-utc. other (rw (page n l h a b c, no-almanac, no-utc)))))))
+-- for a number from 1 to 5 what is none of the five kinds before is one of the other pages
+pub other-remaining : (n d i : ℕ) → 1 ≤ n → n ≤ 5 → isOfKind Other n d i ≡ true → isOther n d i ≡ true
+unfolding isOfKind isOther
+other-remaining n d i l h e =
+    let a = and-true (not (eqb n 1)) _ e in
+    let b = and-true (not (eqb n 2)) _ (a .1) in
+    let c = and-true (not (eqb n 3)) _ (b .1) in
+    rw (page n l h (not-true (eqb n 1) (a .0)) (not-true (eqb n 2) (b .0)) (not-true (eqb n 3) (c .0))) (c .1)
+
+-- a property of the chosen kind, from each kind that the number and the IDs are of
+pub kind-cases : (P : Kind → Type 0) (n d i : ℕ) → ((k : Kind) → isOfKind k n d i ≡ true → P k) → P (kindFor n d i)
+unfolding kindFor isOfKind
+kind-cases P n d i each =
+    by (eqb n 1) refl (each Subframe1)
+    (λ a. by (eqb n 2) refl (each Subframe2)
+    (λ b. by (eqb n 3) refl (each Subframe3)
+    (λ c. by (isAlmanac n d i) refl (each Almanac)
+    (λ e. by (isUtc n d i) refl (each Utc)
+    (λ f. each Other (rw (a, b, c, e, f)))))))
   where
     by : (t : Bool) {s : Bool} → s ≡ t → {j k : Kind} → (s ≡ true → P j) → (s ≡ false → P k) → P (cond t j k)
     by true e f g = f e
@@ -75,3 +82,25 @@ kind-other n d i h =
     let a = and-true (isPage n) (not (isAlmanac n d i) && not (isUtc n d i)) h in
     let b = and-true (not (isAlmanac n d i)) (not (isUtc n d i)) (a .1) in
     page-kind n d i (a .0) ∙ rw (not-true (isAlmanac n d i) (b .0), not-true (isUtc n d i) (b .1))
+
+-- ---- a number and IDs are of exactly one kind, the one that is chosen
+
+pub kind-only : (k : Kind) (n d i : ℕ) → isOfKind k n d i ≡ true → k ≡ kindFor n d i
+unfolding isOfKind kindFor
+kind-only Subframe1 n d i h = sym (rw h)
+kind-only Subframe2 n d i h = sym (rw (eqb-true n 2 h))
+kind-only Subframe3 n d i h = sym (rw (eqb-true n 3 h))
+kind-only Almanac n d i h = sym (kind-almanac n d i h)
+kind-only Utc n d i h = sym (kind-utc n d i h)
+kind-only Other n d i h =
+    let a = and-true (not (eqb n 1)) _ h in
+    let b = and-true (not (eqb n 2)) _ (a .1) in
+    let c = and-true (not (eqb n 3)) _ (b .1) in
+    let e = and-true (not (isAlmanac n d i)) (not (isUtc n d i)) (c .1) in
+    sym (rw (not-true (eqb n 1) (a .0), not-true (eqb n 2) (b .0), not-true (eqb n 3) (c .0), not-true (isAlmanac n d i) (e .0), not-true (isUtc n d i) (e .1)))
+
+pub kind-exactly : (k : Kind) (n d i : ℕ) → (isOfKind k n d i ≡ true) ↔ (k ≡ kindFor n d i)
+kind-exactly k n d i = (
+  kind-only k n d i,
+  λ e. subst (λ (x : Kind). isOfKind x n d i ≡ true) (sym e) (kind-cases (λ x. isOfKind x n d i ≡ true) n d i (λ x h. h)),
+)

@@ -1,4 +1,4 @@
--- Laws. A record made of values has those values.
+-- Laws. A record made of a kind, a header and values has them.
 use mathlib.Core.Path.{_≡_, refl, sym, subst}
 use mathlib.Core.Bool.{true}
 use Prim.Native.Nat.{ℕ, _+_, _*_, _/_, _%_, _<_}
@@ -21,6 +21,14 @@ with-header Subframe3 h v = refl
 with-header Almanac h v = refl
 with-header Utc h v = refl
 with-header Other h v = refl
+
+pub with-kind : (k : Kind) (h : Header) (v : Values (fieldsOf k)) → kindOf (recordWith k h v) ≡ k
+with-kind Subframe1 h v = refl
+with-kind Subframe2 h v = refl
+with-kind Subframe3 h v = refl
+with-kind Almanac h v = refl
+with-kind Utc h v = refl
+with-kind Other h v = refl
 
 -- both parts of af0 come back from the joined value
 parted : (high low : ℕ) → high < 256 → low < 8 → (unsigned 11 (joined high low) / 8 ≡ high) × (unsigned 11 (joined high low) % 8 ≡ low)

@@ -14,7 +14,8 @@ use lib.Seq.{length-take-le, getD-take, getD-drop}
 use Rattle.bits.specs.Bits.{bitsAt}
 use Rattle.finite.specs.First.{firstFrom}
 use Rattle.finite.specs.laws.First.{first-from, first-taken, first-before, first-here}
-use Rattle.answer.specs.Answer.{Answer, accepted, refused, number, refuseIf}
+use Rattle.answer.specs.Answer.{Answer, accepted, refused, number, ByNumber, refuseIf}
+use Rattle.answer.specs.laws.ByNumber.{accepted-by-number, line-by-number}
 use Rattle.answer.specs.laws.Lines.{refused-not, accepted-injective, answered, answer-injective}
 use Rattle.block_check.specs.Check.{acceptedAt}
 use Rattle.block_check.specs.Compare.{Accepted, Equal}
@@ -67,6 +68,10 @@ module _ (s : List ℕ) where
     pub way-0 : length s ≤ 65536 → firstPlace s p < length s → Search.find s p ≡ accepted (firstPlace s p)
     unfolding Search.find refuseIf
     way-0 h l = rw (le-ltb 65536 (length s) h, lt-leb (length s) (firstPlace s p) l)
+
+    pub find-by-number : ByNumber (Search.find s p)
+    unfolding Search.find
+    find-by-number = line-by-number _ 0 _ _ (line-by-number _ 9 _ _ (accepted-by-number (firstPlace s p)))
 
   -- ---- what the answer means
 

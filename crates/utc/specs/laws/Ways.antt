@@ -4,7 +4,8 @@ use mathlib.Core.Bool.{true, false}
 use Prim.Native.Nat.{ℕ}
 use borrow.Author.Tests.{not-false}
 use lib.IntN.{negsuc}
-use Rattle.answer.specs.Answer.{accepted, refused, refuseIf}
+use Rattle.answer.specs.Answer.{accepted, refused, ByNumber, refuseIf}
+use Rattle.answer.specs.laws.ByNumber.{accepted-by-number, line-by-number}
 use Rattle.answer.specs.laws.Lines.{line-accepts, accepted-injective}
 use Rattle.integers.specs.Whole.{eqZ}
 use Rattle.record.specs.Writable.{writable}
@@ -39,6 +40,14 @@ module _ (page : UtcPage) (week second : ℕ) where
         decided = line16 .0;
         is = sym (accepted-injective _ t (line16 .1));
       }
+
+  pub time-by-number : ByNumber (Time.timeOfDay page week second)
+  unfolding Time.timeOfDay
+  time-by-number =
+      line-by-number _ 10 _ _
+      (line-by-number _ 13 _ _
+      (line-by-number _ 14 _ _
+      (line-by-number _ 15 _ _ (accepted-by-number _))))
 
   pub time-11 : writable (R.Utc page) ≡ false → Time.timeOfDay page week second ≡ refused 11 0
   unfolding Time.timeOfDay refuseIf

@@ -8,7 +8,8 @@ use borrow.Author.Tests.{lt-ltb, le-ltb, ltb-false, not-false}
 use lib.Dec.{ltb}
 use lib.ListN.{length, drop}
 use Rattle.finite.specs.Tabulate.{tabulate}
-use Rattle.answer.specs.Answer.{accepted, refused, number, isAccepted, refuseIf}
+use Rattle.answer.specs.Answer.{accepted, refused, number, isAccepted, ByNumber, refuseIf}
+use Rattle.answer.specs.laws.ByNumber.{accepted-by-number, line-by-number}
 use Rattle.answer.specs.laws.Lines.{line-accepts}
 use Rattle.block.specs.declared.polarity.Polarity.{Polarity}
 use Rattle.record.specs.Writable.{writable}
@@ -46,6 +47,10 @@ module _ (r : Record) (buffer : List ℕ) where
       let first = line-accepts _ 11 0 _ tt .0 e in
       let second = line-accepts _ 12 _ _ tt .0 (first .1) in
       (not-false _ (first .0), ltb-false _ _ (second .0))
+
+  pub write-by-number : ByNumber (Writer.write r buffer)
+  unfolding Writer.write
+  write-by-number = line-by-number _ 10 _ _ (line-by-number _ 11 _ _ (accepted-by-number tt))
 
   -- ---- the buffer
 

@@ -3,39 +3,32 @@ use mathlib.Core.Path.{_≡_, sym, _∙_}
 use mathlib.Core.Bool.{true, false}
 use borrow.Author.Needs.{needs}
 use borrow.Author.Tests.{eq-eqb, ne-eqb}
-use Rattle.record.specs.Kind.{isAlmanac, isUtc, kindFor}
+use Rattle.record.specs.Kind.{isAlmanac, isUtc, isOfKind}
 use Rattle.kind.proofs.kind.kind_for.Statement.{statement}
 use Rattle.kind.proofs.kind.kind_for.Tie as tie
 
 returns : tie.Need-returns
-unfolding kindFor
-returns c = rw (eq-eqb _ _ (c .if1 .taken))
+unfolding isOfKind
+returns c = eq-eqb _ _ (c .if1 .taken)
 
 returns-2 : tie.Need-returns-2
-unfolding kindFor
-returns-2 c = rw (ne-eqb _ _ (c .before .if1 .left), eq-eqb _ _ (c .if2 .taken))
+unfolding isOfKind
+returns-2 c = eq-eqb _ _ (c .if2 .taken)
 
 returns-3 : tie.Need-returns-3
-unfolding kindFor
-returns-3 c = rw (ne-eqb _ _ (c .before .before .if1 .left), ne-eqb _ _ (c .before .if2 .left), eq-eqb _ _ (c .if3 .taken))
+unfolding isOfKind
+returns-3 c = eq-eqb _ _ (c .if3 .taken)
 
 returns-4 : tie.Need-returns-4
-unfolding kindFor
-returns-4 c =
-    let d = c .before .before in
-    let almanac : isAlmanac _ _ _ ≡ true = sym (c .before .is-almanac .ensures) ∙ c .if4 .taken in
-    rw (ne-eqb _ _ (d .before .before .if1 .left), ne-eqb _ _ (d .before .if2 .left), ne-eqb _ _ (d .if3 .left), almanac)
+unfolding isOfKind
+returns-4 c = sym (c .before .is-almanac .ensures) ∙ c .if4 .taken
 
 returns-5 : tie.Need-returns-5
-unfolding kindFor
-returns-5 c =
-    let d = c .before .before .before .before in
-    let almanac : isAlmanac _ _ _ ≡ false = sym (c .before .before .before .is-almanac .ensures) ∙ c .before .before .if4 .left in
-    let utc : isUtc _ _ _ ≡ true = sym (c .before .is-utc .ensures) ∙ c .if5 .taken in
-    rw (ne-eqb _ _ (d .before .before .if1 .left), ne-eqb _ _ (d .before .if2 .left), ne-eqb _ _ (d .if3 .left), almanac, utc)
+unfolding isOfKind
+returns-5 c = sym (c .before .is-utc .ensures) ∙ c .if5 .taken
 
 returns-6 : tie.Need-returns-6
-unfolding kindFor
+unfolding isOfKind
 returns-6 c =
     let d = c .before .before .before .before in
     let almanac : isAlmanac _ _ _ ≡ false = sym (c .before .before .before .is-almanac .ensures) ∙ c .before .before .if4 .left in

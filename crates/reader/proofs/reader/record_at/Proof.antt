@@ -8,6 +8,7 @@ use Rattle.bits.specs.Bits.{bitsAt}
 use Rattle.layout.specs.Layout.{decode}
 use Rattle.block.specs.Block.{source}
 use Rattle.record.specs.Kind.{kindFor}
+use Rattle.record.specs.laws.Kind.{kind-only}
 use Rattle.record.specs.Fields.{fieldsOf}
 use Rattle.record.specs.Record.{recordWith}
 use Rattle.record.specs.Source.{headerIn, dataIdIn, idIn, kindIn, recordOf}
@@ -43,7 +44,7 @@ returns c =
     c .record-from .ensures
     ∙ ap (recordWith k h) values
     ∙ made s k h (c .before .before .before .before .before .number-at .result) (c .before .before .before .before .number-at2 .result)
-    (c .before .before .before .kind-for .ensures)
+    (kind-only k (h .subframe) _ _ (c .before .before .before .kind-for .ensures))
     (c .before .before .before .before .before .before .header-at .ensures)
     (c .before .before .before .before .before .number-at .ensures)
     (c .before .before .before .before .number-at2 .ensures)
