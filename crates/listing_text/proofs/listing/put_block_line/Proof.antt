@@ -6,6 +6,7 @@ use Rattle.bits.specs.Bits.{bitsAt}
 use Rattle.text.specs.laws.Put.{put-same}
 use Rattle.block.specs.Block.{Block, count, subframeNumber}
 use Rattle.block.specs.Polarity.{polarityOf}
+use Rattle.block.specs.laws.Polarity.{polarity-by-start}
 use Rattle.listing_text.specs.Listing.{letter, lineWith, line}
 use Rattle.listing_text.proofs.listing.put_block_line.Statement.{statement}
 use Rattle.listing_text.proofs.listing.put_block_line.Tie as tie
@@ -22,8 +23,10 @@ returns c =
     let k = pol .before in
     let n = k .before in
     let a = n .before .before .before .args in
+    let b = bitsAt (a .log .now) (a .p) in
+    let polarity = polarity-by-start b (pol .polarity-at .result) (pol .polarity-at .ensures) in
     put-same (put .put-line .ensures)
-    (line-of (a .p) (bitsAt (a .log .now) (a .p)) (n .subframe-number-at .ensures) (k .count-at .ensures) (l .letter-of .ensures ∙ ap letter (pol .polarity-at .ensures)))
+    (line-of (a .p) b (n .subframe-number-at .ensures) (k .count-at .ensures) (l .letter-of .ensures ∙ ap letter polarity))
 
 pub put-block-line-spec : {M : Type 1} → statement M
 put-block-line-spec =
