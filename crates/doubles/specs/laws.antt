@@ -2,3 +2,5 @@
 pub mod Values
 pub mod Patterns
 pub mod Products
+pub mod Rivals
+pub mod Nearest
