@@ -2,5 +2,6 @@
 pub mod Values
 pub mod Patterns
 pub mod Products
-pub mod Rivals
+pub mod Rounding
+pub mod Units
 pub mod Nearest

@@ -1,1 +1,1 @@
-// Doubles that are whole numbers times a power of two. This layer is definitions and laws (specs/); it has no code.
+// Doubles that are whole numbers times a power of two, and the double nearest to a fraction. This layer is definitions and laws (specs/); it has no code.

@@ -1,24 +1,22 @@
 -- Laws. The table of lengths: its entries, that each is the nearest double, and which index has none.
 use mathlib.Core.Path.{_≡_, refl, sym, ap, _∙_}
-use mathlib.Core.Bool.{Bool, true, false, not, _&&_, cond, false≢true}
+use mathlib.Core.Bool.{Bool, true, false, cond, false≢true}
 use mathlib.Core.List.{List, [], _∷_, map}
 use mathlib.Core.Logic.{_↔_}
 use mathlib.Core.Option.{Option, none, some}
 use Prim.Native.Nat.{ℕ, zero, suc, _<_}
-use native.Mathlib.Nat.{le-of-suc-le-suc, not-suc-le-zero, zero-lt-suc}
+use native.Mathlib.Nat.{le-of-suc-le-suc, not-suc-le-zero}
 use native.Mathlib.Omega.{arith}
 use borrow.Author.Tests.{ltb-true, ltb-false}
-use lib.Dec.{T, ltb}
-use lib.Ieee.{Float, round, size}
-use lib.Ieee.Fits.{and-l, and-r}
-use lib.Ieee.Scale.{finite}
+use lib.Dec.{ltb}
+use lib.Ieee.{Float, size, round, fits, toBits}
 use lib.ListN.{length, getD}
 use Rattle.finite.specs.Every.{everyBelow}
 use Rattle.finite.specs.laws.Every.{everyBelow-at}
 use Rattle.layout.specs.Field.{within}
 use Rattle.layout.specs.laws.Layout.{each-within}
-use Rattle.doubles.specs.Nearest.{IsNearest, halfway}
-use Rattle.doubles.specs.laws.Nearest.{round-nearest}
+use Rattle.doubles.specs.Nearest.{IsNearest}
+use Rattle.doubles.specs.laws.Nearest.{halfway, isRounded, isRounded-nearest}
 use Rattle.record.specs.Fields.{subframe1Fields}
 use Rattle.record.specs.Record.{subframe1Values}
 use Rattle.record.specs.laws.Taken.{taken}
@@ -36,18 +34,12 @@ mapped-at f xs ys d e same k h = ap (λ (zs : List _). getD zs k d) same ∙ map
     mapped (y ∷ ys) zero h = refl
     mapped (y ∷ ys) (suc k) h = mapped ys k (le-of-suc-le-suc h)
 
--- none of the lengths that document 01 states is halfway between two doubles
-lengths-round : (k : ℕ) → k < length tenths → T (finite (nearestTenths (getD tenths k 0)) && not (halfway (getD tenths k 0) 10))
-unfolding everyBelow tenths nearestTenths round size halfway
-lengths-round = everyBelow-at (length tenths) (λ k. finite (nearestTenths (getD tenths k 0)) && not (halfway (getD tenths k 0) 10)) tt
-
--- each length is the double nearest to the one that document 01 states: every other double that is a number is farther away
+-- each length is the double nearest to the one that document 01 states: every other double that is a number is farther from it
 pub metres-nearest : (k : ℕ) → k < length tenths → IsNearest (getD tenths k 0) 10 (nearestTenths (getD tenths k 0))
-unfolding nearestTenths
+unfolding everyBelow tenths nearestTenths round size fits toBits halfway isRounded
 metres-nearest k h =
-    let n = getD tenths k 0 in
-    let t = lengths-round k h in
-    round-nearest n 10 (zero-lt-suc 9) (and-l (finite (nearestTenths n)) (not (halfway n 10)) t) (and-r (finite (nearestTenths n)) (not (halfway n 10)) t)
+    isRounded-nearest (getD tenths k 0) 10 (nearestTenths (getD tenths k 0))
+    (everyBelow-at (length tenths) (λ k. isRounded (getD tenths k 0) 10 (nearestTenths (getD tenths k 0))) tt k h)
 
 -- in a record that is not refused, exactly index 15 has no prediction
 pub no-prediction : (r : Subframe1) → writable (R.Subframe1 r) ≡ true → (accuracyFor (r .ura) ≡ none) ↔ (r .ura ≡ 15)

@@ -1,10 +1,10 @@
--- Laws. Of the numbers m * 2 ^ j with an m of at most p binary digits, none is nearer to a fraction than the one that `round` keeps (`kept` and `drop` of the
--- library: p digits of the whole part are kept, the rest is rounded to the nearest). Nothing here is about floats.
+-- Laws. A fraction n / c rounded as `round` does it, to a number of p binary digits times a power of two (`kept` and `drop` of the library): no other such number
+-- is nearer to n / c, and none is as near unless n / c lies halfway between two. Nothing here is about floats.
 use mathlib.Core.Path.{_≡_, refl, sym, ap, _∙_, subst}
 use mathlib.Core.Bool.{Bool, true, false, not}
 use mathlib.Core.Logic.{inl, inr, _⊎_}
 use Prim.Native.Nat.{ℕ, zero, suc, _+_, _-_, _*_, _/_, _%_, _^_, _≤_, _<_, compare, Ordering, Ordering·lt, Ordering·eq, Ordering·gt}
-use native.Mathlib.Nat.{le-refl, le-trans, le-of-eq, le-of-lt, lt-of-lt-of-le, mul-comm, mul-assoc, mul-right-comm, mul-le-mul-right, mul-lt-mul-of-pos-right, mul-pos, add-mul, suc-mul, div-add-mod', mod-lt, le-div-iff-mul-le, zero-lt-suc, zero-mul, one-mul, not-suc-le-zero, le-of-suc-le-suc}
+use native.Mathlib.Nat.{le-refl, le-trans, le-of-eq, lt-of-lt-of-le, mul-comm, mul-assoc, mul-le-mul-right, mul-lt-mul-of-pos-right, mul-pos, add-mul, suc-mul, div-add-mod', mod-lt, le-div-iff-mul-le, zero-lt-suc, zero-mul, one-mul, not-suc-le-zero, le-of-suc-le-suc}
 use native.Mathlib.Omega.{arith}
 use lib.Dec.{T, isLe, isEq, eqb, ltb, leb→le, nleb→lt, eqb→eq, eqb-refl, ltb→lt, nltb→le}
 use lib.Arith.{lt-of-le-ne}
@@ -66,28 +66,28 @@ multiples-apart u q r other = go (compare r q) (compared r q)
     go Ordering·gt h = omega (arith, less r q h)
 
 -- x is at least as near to n as y is, and just as near only at a tie
-abbrev pub Ahead : Type 0 → ℕ → ℕ → ℕ → Type 0
-Ahead tie x y n = (apart false x n ≤ apart false y n) × (apart false x n ≡ apart false y n → tie)
+abbrev pub NearerUnless : Type 0 → ℕ → ℕ → ℕ → Type 0
+NearerUnless tie x y n = (apart false x n ≤ apart false y n) × (apart false x n ≡ apart false y n → tie)
 
-module _ (n u : ℕ) (U : 0 < u) where
-  closest-ahead : (r : ℕ) → (r ≡ closest n u → ⊥) → Ahead (n % u * 2 ≡ u) (closest n u * u) (r * u) n
-  closest-ahead r other =
-      let near = closest-within n u U in
-      let far = multiples-apart u (closest n u) r other in
-      (omega arith, λ e. near .1 (omega arith))
+-- if q times c is so of every other number's multiple, it is at least as near as any
+pub no-farther : (tie : Type 0) (n c q r : ℕ) → ((r ≡ q → ⊥) → NearerUnless tie (q * c) (r * c) n) → apart false (q * c) n ≤ apart false (r * c) n
+no-farther tie n c q r h = go (compare r q) (compared r q)
+  where
+    go : (o : Ordering) → Compared o r q → apart false (q * c) n ≤ apart false (r * c) n
+    go Ordering·lt l = h (λ e. omega arith) .0
+    go Ordering·eq e = rw e (le-refl (apart false (q * c) n))
+    go Ordering·gt l = h (λ e. omega arith) .0
 
-  closest-least : (r : ℕ) → apart false (closest n u * u) n ≤ apart false (r * u) n
-  closest-least r = go (compare r (closest n u)) (compared r (closest n u))
-    where
-      go : (o : Ordering) → Compared o r (closest n u) → apart false (closest n u * u) n ≤ apart false (r * u) n
-      go Ordering·lt h = closest-ahead r (λ e. omega arith) .0
-      go Ordering·eq h = rw h (le-refl (apart false (closest n u * u) n))
-      go Ordering·gt h = closest-ahead r (λ e. omega arith) .0
+closest-nearest : (n u : ℕ) → 0 < u → (r : ℕ) → (r ≡ closest n u → ⊥) → NearerUnless (n % u * 2 ≡ u) (closest n u * u) (r * u) n
+closest-nearest n u U r other =
+    let near = closest-within n u U in
+    let far = multiples-apart u (closest n u) r other in
+    (omega arith, λ e. near .1 (omega arith))
 
--- ---- the numbers of p digits
+-- ---- the numbers m * 2 ^ j with an m of at most p digits
 
 module _ (p n c : ℕ) (P : 0 < p) (C : 0 < c) where
-  -- how many digits are dropped, c times the unit of the last one kept, and the number kept
+  -- how many digits are dropped, c times the weight of the last one kept, and the rounded number
   abbrev dropped : ℕ
   dropped = drop p n c
 
@@ -97,22 +97,26 @@ module _ (p n c : ℕ) (P : 0 < p) (C : 0 < c) where
   abbrev rounded : ℕ
   rounded = kept p n c * 2 ^ dropped
 
+  -- n / c lies halfway between two multiples of that weight
+  abbrev Tie : Type 0
+  Tie = n % unit * 2 ≡ unit
+
   unit-pos : 0 < unit
   unit-pos = mul-pos C (pow-pos dropped)
 
   in-units : (q : ℕ) → q * 2 ^ dropped * c ≡ q * unit
   in-units q = mul-assoc q (2 ^ dropped) c ∙ ap (λ (x : ℕ). q * x) (mul-comm (2 ^ dropped) c)
 
-  -- a multiple of the unit
-  coarse : (m j : ℕ) → dropped ≤ j → (m * 2 ^ j ≡ rounded → ⊥) → Ahead (n % unit * 2 ≡ unit) (rounded * c) (m * 2 ^ j * c) n
+  -- a multiple of 2 ^ dropped
+  coarse : (m j : ℕ) → dropped ≤ j → (m * 2 ^ j ≡ rounded → ⊥) → NearerUnless Tie (rounded * c) (m * 2 ^ j * c) n
   coarse m j h other =
       let r = m * 2 ^ (j - dropped) in
       let back : j - dropped + dropped ≡ j = omega arith in
       let is : r * 2 ^ dropped ≡ m * 2 ^ j = mul-assoc m (2 ^ (j - dropped)) (2 ^ dropped) ∙ ap (λ (x : ℕ). m * x) (sym (pow-add 2 (j - dropped) dropped)) ∙ ap (λ (x : ℕ). m * 2 ^ x) back in
-      rw (in-units (kept p n c), ← is, in-units r) (closest-ahead n unit unit-pos r (λ e. other (sym is ∙ ap (λ (x : ℕ). x * 2 ^ dropped) e)))
+      rw (in-units (kept p n c), ← is, in-units r) (closest-nearest n unit unit-pos r (λ e. other (sym is ∙ ap (λ (x : ℕ). x * 2 ^ dropped) e)))
 
-  -- a number with digits below the unit is below 2 ^ (p - 1) units, and n / c is not
-  fine : (m j : ℕ) → m < 2 ^ p → j < dropped → Ahead (n % unit * 2 ≡ unit) (rounded * c) (m * 2 ^ j * c) n
+  -- a number with digits below that is less than 2 ^ (p - 1) times 2 ^ dropped, and n / c is not
+  fine : (m j : ℕ) → m < 2 ^ p → j < dropped → NearerUnless Tie (rounded * c) (m * 2 ^ j * c) n
   fine m j digits h =
       let power = 2 ^ (p - 1) * 2 ^ dropped in
       let short : p + j ≤ p - 1 + dropped = omega arith in
@@ -120,13 +124,12 @@ module _ (p n c : ℕ) (P : 0 < p) (C : 0 < c) where
       let below : m * 2 ^ j < power = lt-of-lt-of-le (shl-lt p j digits) (le-trans (pow-mono short) (le-of-eq (pow-add 2 (p - 1) dropped))) in
       let reached : power * c ≤ n = le-div-iff-mul-le C .0 (le-trans (le-of-eq (sym (pow-add 2 (p - 1) dropped))) (size-reaches (n / c) (p - 1 + dropped) long)) in
       let less : m * 2 ^ j * c < power * c = mul-lt-mul-of-pos-right below C in
-      let least : apart false (rounded * c) n ≤ apart false (power * c) n = rw (in-units (kept p n c), in-units (2 ^ (p - 1))) (closest-least n unit unit-pos (2 ^ (p - 1))) in
+      let least : apart false (rounded * c) n ≤ apart false (power * c) n = rw (in-units (kept p n c), in-units (2 ^ (p - 1))) (no-farther Tie n unit (kept p n c) (2 ^ (p - 1)) (closest-nearest n unit unit-pos (2 ^ (p - 1)))) in
       (omega arith, λ e. absurd (omega arith))
 
-  -- every other number of p digits
-  pub rounded-ahead : (m j : ℕ) → m < 2 ^ p → (m * 2 ^ j ≡ rounded → ⊥) → Ahead (n % unit * 2 ≡ unit) (rounded * c) (m * 2 ^ j * c) n
-  rounded-ahead m j digits other = go (ltb j dropped) (ltb→lt j dropped) (nltb→le j dropped)
+  pub rounded-nearest : (m j : ℕ) → m < 2 ^ p → (m * 2 ^ j ≡ rounded → ⊥) → NearerUnless Tie (rounded * c) (m * 2 ^ j * c) n
+  rounded-nearest m j digits other = go (ltb j dropped) (ltb→lt j dropped) (nltb→le j dropped)
     where
-      go : (b : Bool) → (T b → j < dropped) → (T (not b) → dropped ≤ j) → Ahead (n % unit * 2 ≡ unit) (rounded * c) (m * 2 ^ j * c) n
+      go : (b : Bool) → (T b → j < dropped) → (T (not b) → dropped ≤ j) → NearerUnless Tie (rounded * c) (m * 2 ^ j * c) n
       go true l g = fine m j digits (l tt)
       go false l g = coarse m j (g tt) other
