@@ -2,4 +2,6 @@
 pub mod Answers
 pub mod Machine
 pub mod Having
+pub mod InStruct
+pub mod ValuesExactly
 pub mod OwnValues
