@@ -21,26 +21,28 @@ use Rattle.doubles.specs.laws.Units.{Counted, counted, Other, nearer-uni
 -- ---- what `round` keeps of a / c, in units of the format's smallest value
 
 module _ (f : Format) (a c : ℕ) (C : 0 < c) where
+  -- a / c is parts / c units; c times the weight of the last digit that is kept; how far what is kept is from a / c, times c
   abbrev parts : ℕ
   parts = a * 2 ^ low f
 
   abbrev unit : ℕ
   unit = c * 2 ^ drop (prec f) parts c
 
-  abbrev Tie : Type 0
-  Tie = parts % unit * 2 ≡ unit
-
   abbrev away : ℕ
   away = apart false (grid f a c * c) parts
+
+  abbrev Tie : Type 0
+  Tie = parts % unit * 2 ≡ unit
 
   kept-nearest : (m j : ℕ) → m < 2 ^ prec f → (m * 2 ^ j ≡ grid f a c → ⊥) → NearerUnless Tie (grid f a c * c) (m * 2 ^ j * c) parts
   kept-nearest = rounded-nearest (prec f) parts c (two-le-pos (prec f) (two f)) C
 
-  -- a number below zero is no nearer than zero, 0 * 2 ^ 0
+  -- any number is at least as far; one below zero is no nearer than zero, 0 * 2 ^ 0
   any : (s : Bool) (m j : ℕ) → m < 2 ^ prec f → away ≤ apart s (m * 2 ^ j * c) parts
   any false m j h = no-farther Tie parts c (grid f a c) (m * 2 ^ j) (kept-nearest m j h)
   any true m j h = omega (arith, no-farther Tie parts c (grid f a c) 0 (kept-nearest 0 0 (pow-pos (prec f))), zero-mul c)
 
+  -- any other number is farther
   module _ (split : Tie → ⊥) where
     other-plus : (m j : ℕ) → m < 2 ^ prec f → (m * 2 ^ j ≡ grid f a c → ⊥) → away < apart false (m * 2 ^ j * c) parts
     other-plus m j h n = let z = kept-nearest m j h n in lt-of-le-ne (z .0) (λ e. split (z .1 e))
