@@ -6,4 +6,5 @@ pub mod Held
 pub mod Taken
 pub mod Returned
 pub mod Positions
+pub mod AsKind
 pub mod Placed

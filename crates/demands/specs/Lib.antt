@@ -1,0 +1,5 @@
+-- The files of this folder: definitions; laws about them.
+pub mod Table
+pub mod Orbit
+pub mod Detected
+pub mod laws
