@@ -10,9 +10,9 @@ use crate::messages::complain;
 use crate::request::ends;
 use digits::Whole;
 use record_text::COUNT;
-use record_text::FIELDS;
 use record_text::FIRST;
 use record_text::KINDS;
+use record_text::field_table;
 ghost use Prim.Native.Nat.{_≤_};
 ghost use lib.ListN.{length};
 
@@ -51,7 +51,7 @@ pub(crate) fn record_at(command: usize, line: &[u8]) -> usize {
 
 // The number of a kind's field with this name, or 25 where it has none: one of the header's six, or one of its own, which follow them.
 fn field_named(kind: usize, name: &[u8]) -> usize {
-    let fields = FIELDS;
+    let fields = field_table();
     let i = lines::named(&fields, name, 0, 6);
     if i < 6 {
         return i;

@@ -7,6 +7,6 @@ pub use decimals::print_double;
 pub use print::print_fields;
 pub use print::print_record;
 pub use table::COUNT;
-pub use table::FIELDS;
 pub use table::FIRST;
 pub use table::KINDS;
+pub use table::field_table;

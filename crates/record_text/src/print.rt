@@ -1,9 +1,9 @@
 // Prints a record: a line for each field, or all of it on one line.
 use crate::decimals::print_scaled;
 use crate::table::COUNT;
-use crate::table::FIELDS;
 use crate::table::FIRST;
 use crate::table::KINDS;
+use crate::table::field_table;
 use console::end_line;
 use console::print;
 use console::print_signed;
@@ -48,7 +48,7 @@ fn print_short(field: &[u8], number: i64) {
 }
 
 fn print_field(kind: usize, i: usize, number: i64, is_long: bool) {
-    let table = FIELDS;
+    let table = field_table();
     let field = lines::line(&table, field_line(kind, i));
     if is_long {
         print_long(field, number);

@@ -1,4 +1,6 @@
 // The names of the kinds and of their fields, with scales and units.
+ghost use mathlib.Core.Path.{_≡_};
+ghost use Rattle.record_text.specs.FieldLines.{fieldLines};
 
 // Line k - 1 is the name of kind k.
 pub const KINDS: [u8; 48] = *b"subframe1
@@ -15,9 +17,9 @@ pub const FIRST: [usize; 8] = [0, 6, 22, 33, 42, 55, 74, 0];
 // How many fields a kind has, with the six of the header.
 pub const COUNT: [usize; 8] = [0, 22, 17, 15, 19, 25, 16, 0];
 
-// A line for each field: its name, and, where document 01 gives a scale, the scale and the unit (document 000, Tables 20-I, 20-III, 20-VI and
-// 20-IX). A scale -k stands for 2^-k. The fields of the header come first, then those of kind 1, of kind 2 and so on, each in the order of its struct.
-pub const FIELDS: [u8; 1051] = *b"message
+// A line for each field: its name, and, where document 01 gives a scale, the scale and the unit. A scale -k stands for 2^-k. The fields of the
+// header come first, then those of kind 1, of kind 2 and so on, each in the order of its struct.
+const FIELDS: [u8; 1051] = *b"message
 reserved
 count 6 s
 flag18
@@ -102,3 +104,10 @@ reserved8
 reserved9
 reserved10
 ";
+
+// The fields with their rule: scales and units are those of document 000's tables.
+pub fn field_table() -> [u8; 1051]
+    ensures { λ r. ⌜ r ≡ fieldLines ⌝ }
+{
+    FIELDS
+}

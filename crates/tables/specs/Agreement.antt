@@ -12,16 +12,23 @@ use Rattle.layout.specs.Field.{Field, u, s, width, signed}
 use Rattle.layout.specs.Layout.{Layout, size}
 use Rattle.record.specs.Fields.{fieldsOf}
 use Rattle.record.specs.declared.kind.Kind.{Kind}
-use Rattle.tables.specs.Tables.{Bits, plain, starred, Scale, twoTo, twoToMinus, times, blank, Row, row}
+use Rattle.tables.specs.Tables.{BitCount, plain, starred, Scale, twoTo, twoToMinus, times, blank, Row, row, aodo}
 use Rattle.tables.specs.Listed.{Entry, holds, unlisted, entriesOf, rowsOf}
 
+-- row and entry number i of a kind
+abbrev pub rowAt : Kind → ℕ → Row
+rowAt k i = getD (rowsOf k) i aodo
+
+abbrev pub entryAt : Kind → ℕ → Entry
+entryAt k i = getD (entriesOf k) i (unlisted "")
+
 -- the field that a printed number of bits describes
-abbrev pub fieldOf : Bits → Field
+abbrev pub fieldOf : BitCount → Field
 fieldOf (plain w) = u w
 fieldOf (starred w) = s w
 
 -- the whole number that the number n of bits so printed stands for
-abbrev pub readAs : Bits → ℕ → ℤ
+abbrev pub readAs : BitCount → ℕ → ℤ
 readAs (plain w) n = pos n
 readAs (starred w) n = signed w n
 
@@ -44,7 +51,7 @@ heldIn (f ∷ l) (holds q c ∷ es) p = cond (eqt q p) (f ∷ heldIn l es p) (he
 heldIn (f ∷ l) (unlisted n ∷ es) p = heldIn l es p
 
 -- One field has the width and the sign that are printed. The parts of a parameter have no sign of their own, and their widths add up to its.
-unfoldable pub asPrinted : Bits → Layout → Bool
+unfoldable pub asPrinted : BitCount → Layout → Bool
 asPrinted b [] = false
 asPrinted b (f ∷ []) = sameField f (fieldOf b)
 asPrinted b (f ∷ g ∷ l) = allUnsigned (f ∷ g ∷ l) && eqb (size (f ∷ g ∷ l)) (width (fieldOf b))

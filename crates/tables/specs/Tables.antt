@@ -5,9 +5,9 @@ use Prim.Native.String.{String}
 
 -- A number of bits, without the mark * or with it: parameters so indicated are two's complement, with the sign bit occupying the MSB (footnote *).
 -- Footnote ** stands in the column's heading, and **** with DN (right justified) and with δ_i (relative to 0.30 semicircles).
-pub data Bits : Type 0 where
-  plain : ℕ → Bits
-  starred : ℕ → Bits
+pub data BitCount : Type 0 where
+  plain : ℕ → BitCount
+  starred : ℕ → BitCount
 
 -- A scale factor: a power of two, a number, or nothing where the table refers to the text.
 pub data Scale : Type 0 where
@@ -19,11 +19,11 @@ pub data Scale : Type 0 where
 -- Parameter, No. of Bits, Scale Factor (LSB), Units. Effective ranges are left out: nothing applies them.
 pub record Row : Type 0 where
   pub parameter : String
-  pub bits : Bits
+  pub bits : BitCount
   pub scale : Scale
   pub unit : String
 
-abbrev pub row : String → Bits → Scale → String → Row
+abbrev pub row : String → BitCount → Scale → String → Row
 row p b c t = record { parameter = p; bits = b; scale = c; unit = t }
 
 -- Table 20-I. Subframe 1 Parameters

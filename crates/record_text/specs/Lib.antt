@@ -1,0 +1,2 @@
+-- The files of this folder: definitions.
+pub mod FieldLines
