@@ -69,6 +69,17 @@ named p (r ∷ rs) = cond (eqt (r .parameter) p) (r ∷ named p rs) (named p rs)
 abbrev pub rowOf : List Row → String → Row
 rowOf rs p = getD (named p rs) 0 (row p (plain 0) blank "")
 
+-- the k of a scale 2^-k, and 0 of any other
+abbrev pub binaryPlaces : Scale → ℕ
+binaryPlaces (twoTo k) = 0
+binaryPlaces (twoToMinus k) = k
+binaryPlaces (times n) = 0
+binaryPlaces blank = 0
+
+-- that of the scale that rows have for a parameter
+abbrev pub placesOf : List Row → String → ℕ
+placesOf rs p = binaryPlaces (rowOf rs p .scale)
+
 -- a scale as one number: -k for 2^-k, else the factor itself; a scale that is not given is 1
 abbrev pub scaleNumber : Scale → ℤ
 scaleNumber (twoTo k) = pos (2 ^ k)
