@@ -2,13 +2,20 @@
 // block on the walk. Where standard input cannot be read, or standard output not written, it says so on standard error.
 use libc::STDIN_FILENO;
 use libc::STDOUT_FILENO;
+use listing_text::Listed;
 
-// Prints the listing of a log.
+fn print(text: &[u8]) {
+    if !io::write_all(STDOUT_FILENO, text) {
+        os::fail(b"standard output");
+    }
+}
+
+// Prints the listing of a log, or the line of its refusal.
 fn print_listing(log: &[u8]) {
     let mut text = io::buffer();
-    let n = listing_text::list(log, &mut text);
-    if !io::write_all(STDOUT_FILENO, &text[..n]) {
-        os::fail(b"standard output");
+    match listing_text::list(log, &mut text) {
+        Listed::Length(n) => print(&text[..n]),
+        Listed::Refused(_) => print(b"refused\t1\n"),
     }
 }
 

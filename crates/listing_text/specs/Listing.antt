@@ -1,17 +1,21 @@
--- Definitions. What the listing program prints (document 01, 'Listing program').
+-- Definitions. The listing of a log (document 01, 'Listing program').
+use mathlib.Core.Path.{_≡_}
 use mathlib.Core.Bool.{cond}
 use mathlib.Core.List.{List, [], _∷_, _++_}
-use Prim.Native.Nat.{ℕ, zero, suc, _+_, _-_}
+use Prim.Native.Nat.{ℕ, zero, suc, _+_, _-_, _≤_}
 use Prim.Native.Char.{code}
 use lib.Dec.{ltb}
-use lib.ListN.{length, drop}
+use lib.ListN.{length, take, drop}
 use Rattle.bits.specs.Bits.{bitsAt}
 use Rattle.text.specs.Text.{ascii, decimal, tabbed}
+use Rattle.answer.specs.Answer.{Answer, accepted, refuseIf, fromValue, refusalAnswer}
 use Rattle.block.specs.Block.{Block, count, subframeNumber}
 use Rattle.block_check.specs.Check.{acceptedAt}
 use Rattle.block.specs.Polarity.{polarityOf}
 use Rattle.block.specs.declared.polarity.Polarity.{Polarity}
 use Rattle.block.specs.declared.polarity.Polarity.the-variants.{Upright, Inverted}
+use Rattle.listing_text.specs.declared.listing.Listed.{Listed}
+use Rattle.listing_text.specs.declared.listing.Listed.the-variants.{Length, Refused}
 
 -- The accepted places on the walk from p on, in at most n steps: after an accepted block at p it goes to p + 300, else to p + 1, until fewer than
 -- 302 bytes are left.
@@ -47,14 +51,26 @@ lines s (p ∷ ps) = line p (bitsAt s p) ++ lines s ps
 unfoldable pub header : List ℕ
 header = tabbed (ascii "place") (ascii "id" ∷ ascii "count" ∷ ascii "polarity" ∷ [])
 
--- the one line of an overlong log
-unfoldable pub overlong : List ℕ
-overlong = tabbed (ascii "refused") (ascii "1" ∷ [])
-
--- the whole output for the log s
+-- the header, then the lines of the walk from place 0
 unfoldable pub listing : List ℕ → List ℕ
-listing s = cond (ltb 65536 (length s)) overlong (header ++ lines s (walk s 0))
+listing s = header ++ lines s (walk s 0)
 
--- the text at the start of a buffer, and the rest as it was
+-- number 1, or the length of the listing
+unfoldable pub list : List ℕ → Answer ℕ
+list s =
+    refuseIf (ltb 65536 (length s)) 1 (length s)
+    (accepted (length (listing s)))
+
+-- the listing at the start of a buffer, and the rest as it was; a refusal leaves the buffer as it was
 unfoldable pub bufferAfter : List ℕ → List ℕ → List ℕ
-bufferAfter s buffer = listing s ++ drop (length (listing s)) buffer
+bufferAfter s buffer = fromValue buffer (λ n. listing s ++ drop n buffer) (list s)
+
+-- what the code's answer says
+unfoldable pub listedAnswer : Listed → Answer ℕ
+listedAnswer (Length n) = accepted n
+listedAnswer (Refused r) = refusalAnswer r
+
+-- the bytes of a listing that is given are there in the buffer; both parts are stated as whoever lends them wants them
+abbrev pub Lendable : Listed → List ℕ → Type 0
+Lendable (Length n) buffer = (n ≤ length buffer) × (n ≡ length (take n buffer))
+Lendable (Refused r) buffer = Unit {0}

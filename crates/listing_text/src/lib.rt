@@ -1,4 +1,5 @@
-// The text of the listing program (document 01, 'Listing program'), put into the caller's buffer.
+// The listing of a log (document 01, 'Listing program'), put into the caller's buffer.
 mod listing;
 
+pub use listing::Listed;
 pub use listing::list;

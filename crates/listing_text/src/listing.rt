@@ -1,15 +1,22 @@
-// The listing of a log: a line for each accepted block on the walk, or the one line of an overlong log.
+// The listing of a log: a header, and a line for each accepted block on the walk; or the refusal of an overlong log.
+use answer::Refusal;
+use answer::refusal_by;
 use block::Polarity;
 use search::Found;
 use text::put_byte;
 use text::put_field;
 use text::put_text;
 ghost use mathlib.Core.Path.{_≡_};
-ghost use Prim.Native.Nat.{_≤_};
-ghost use lib.ListN.{length, take};
 ghost use Rattle.bits.specs.Bits.{bitsAt};
 ghost use Rattle.text.specs.Put.{Put};
-ghost use Rattle.listing_text.specs.Listing.{letter, lineWith, line, lines, walk, listing, bufferAfter};
+ghost use Rattle.listing_text.specs.Listing as Listing;
+ghost use Rattle.listing_text.specs.Listing.{letter, lineWith, line, lines, walk, bufferAfter, listedAnswer, Lendable};
+
+// The answer of the listing.
+pub enum Listed {
+    Length(usize),
+    Refused(Refusal),
+}
 
 fn letter_of(polarity: Polarity) -> u8
     ensures { λ r. ⌜ r ≡ letter polarity ⌝ }
@@ -56,15 +63,15 @@ fn put_lines(log: &[u8], out: &mut [u8], start: usize) -> usize
     }
 }
 
-// Puts the listing of a log at the start of a buffer, and gives its length. Every listing fits. The second promise, that so many bytes are
-// there, lets a caller lend them.
-pub fn list(log: &[u8], out: &mut [u8; 4096]) -> usize
-    ensures { λ n. ⌜ (n ≡ length (listing (now (log .entry)))) × (now (out .exit) ≡ bufferAfter (now (log .entry)) (now (out .entry))) ⌝ }
-    ensures { λ n. ⌜ (n ≤ length (now (out .exit))) × (n ≡ length (take n (now (out .exit)))) ⌝ }
+// Puts the listing of a log at the start of a buffer and gives its length. Every listing fits. An overlong log is refused, and the buffer is as it
+// was. The second promise, that so many bytes are there, lets a caller lend them.
+pub fn list(log: &[u8], out: &mut [u8; 4096]) -> Listed
+    ensures { λ r. ⌜ (listedAnswer r ≡ Listing.list (now (log .entry))) × (now (out .exit) ≡ bufferAfter (now (log .entry)) (now (out .entry))) ⌝ }
+    ensures { λ r. ⌜ Lendable r (now (out .exit)) ⌝ }
 {
     if block::LOG_LIMIT < log.len() {
-        return put_text(out, 0, b"refused\t1\n");
+        return Listed::Refused(refusal_by(1, log.len()));
     }
     let start = put_text(out, 0, b"place\tid\tcount\tpolarity\n");
-    put_lines(log, out, start)
+    Listed::Length(put_lines(log, out, start))
 }

@@ -10,13 +10,16 @@ use crate::request::Request;
 use crate::written::Block;
 use collector::Collector;
 use console::print_refusal;
+use listing_text::Listed;
 use search::Found;
 
-// Document 01's listing.
+// Document 01's listing, or the line of its refusal.
 fn list(log: &[u8]) {
     let mut text = io::buffer();
-    let n = listing_text::list(log, &mut text);
-    console::print(&text[..n]);
+    match listing_text::list(log, &mut text) {
+        Listed::Length(n) => console::print(&text[..n]),
+        Listed::Refused(_) => console::print(b"refused\t1\n"),
+    }
 }
 
 fn answer_on(command: usize, log: &[u8], place: usize) {

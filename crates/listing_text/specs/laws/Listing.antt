@@ -1,4 +1,4 @@
--- Laws. How long the lines of the walk are, and that every listing fits into 4,096 bytes.
+-- Laws. That every listing fits into 4,096 bytes, and what is answered.
 use mathlib.Core.Path.{_≡_, refl, ap}
 use mathlib.Core.Bool.{Bool, true, false, cond}
 use mathlib.Core.List.{List, [], _∷_, _++_}
@@ -7,16 +7,23 @@ use native.Mathlib.Decide.{decLt}
 use native.Mathlib.Omega.{arith}
 use borrow.Author.Tests.{lt-ltb, le-ltb, ltb-false}
 use lib.Dec.{ltb}
-use lib.ListN.{length, length-append}
+use lib.ListN.{length, drop, length-append}
 use Rattle.bits.specs.Bits.{bitsAt}
 use Rattle.bits.specs.laws.Pack.{pack-lt}
 use Rattle.text.specs.Text.{ascii, decimal, tabbed}
 use Rattle.text.specs.laws.Text.{decimal-short, tabbed-last, tabbed-more}
+use Rattle.answer.specs.Answer.{accepted, refused, refuseIf, fromValue}
+use Rattle.answer.specs.laws.Lines.{answered, answer-injective}
 use Rattle.parity.specs.Word.{sourceBit}
 use Rattle.block.specs.Block.{Block, window, field, count, subframeNumber}
 use Rattle.block_check.specs.Check.{acceptedAt}
 use Rattle.block.specs.Polarity.{polarityOf}
-use Rattle.listing_text.specs.Listing.{walkIn, walk, letter, lineWith, line, lines, header, overlong, listing}
+use Rattle.search.specs.laws.Search.{way-1}
+use Rattle.listing_text.specs.Listing as Listing
+use Rattle.listing_text.specs.Listing.{walkIn, walk, letter, lineWith, line, lines, header, listing, bufferAfter, listedAnswer}
+use Rattle.listing_text.specs.laws.Searched.{walk-none}
+use Rattle.listing_text.specs.declared.listing.Listed.{Listed}
+use Rattle.listing_text.specs.declared.listing.Listed.the-variants as Listed
 
 lineWith-length : (p n c x : ℕ) → length (lineWith p n c x) ≡ length (decimal p) + length (decimal n) + length (decimal c) + 5
 unfolding lineWith
@@ -61,20 +68,41 @@ module _ (s : List ℕ) (short : length s ≤ 65536) where
   unfolding walk
   lines-short = omega (arith, rest-short (length s - 0) 0)
 
+-- in an overlong log no block is accepted, and the header alone is left
+pub listing-fits : (s : List ℕ) → length (listing s) ≤ 4096
+unfolding listing lines header tabbed ascii
+listing-fits s = go (decLt 65536 (length s))
+  where
+    go : Dec (65536 < length s) → length (listing s) ≤ 4096
+    go (yes h) = omega (arith, length-append header (lines s (walk s 0)), ap (λ (ps : List ℕ). length (lines s ps)) (walk-none s 0 1 (length s) (way-1 s 0 h)))
+    go (no h) = omega (arith, length-append header (lines s (walk s 0)), lines-short s (omega arith))
+
+-- ---- the answer, and the buffer after it
+
 module _ (s : List ℕ) where
-  pub listing-long : 65536 < length s → listing s ≡ overlong
-  unfolding listing
-  listing-long h = rw (lt-ltb 65536 (length s) h)
+  pub list-refuses : 65536 < length s → Listing.list s ≡ refused 1 (length s)
+  unfolding Listing.list refuseIf
+  list-refuses h = rw (lt-ltb 65536 (length s) h)
 
-  pub listing-lines : length s ≤ 65536 → listing s ≡ header ++ lines s (walk s 0)
-  unfolding listing
-  listing-lines h = rw (le-ltb 65536 (length s) h)
+  pub list-gives : length s ≤ 65536 → Listing.list s ≡ accepted (length (listing s))
+  unfolding Listing.list refuseIf
+  list-gives h = rw (le-ltb 65536 (length s) h)
 
-  pub listing-fits : length (listing s) ≤ 4096
-  unfolding overlong header tabbed ascii
-  listing-fits = go (decLt 65536 (length s))
-    where
-      go : Dec (65536 < length s) → length (listing s) ≤ 4096
-      go (yes h) = omega (arith, ap length (listing-long h))
-      go (no h) =
-          omega (arith, ap length (listing-lines (omega arith)), length-append header (lines s (walk s 0)), lines-short s (omega arith))
+  module _ (buffer : List ℕ) where
+    -- a refusal leaves the buffer as it was
+    pub after-refusal : (n d : ℕ) → Listing.list s ≡ refused n d → bufferAfter s buffer ≡ buffer
+    unfolding bufferAfter fromValue
+    after-refusal n d e = rw e
+
+    pub after-listing : (n : ℕ) → Listing.list s ≡ accepted n → bufferAfter s buffer ≡ listing s ++ drop n buffer
+    unfolding bufferAfter fromValue
+    after-listing n e = rw e
+
+-- the answer determines the enum
+pub listedAnswer-injective : (x y : Listed) → listedAnswer x ≡ listedAnswer y → x ≡ y
+unfolding listedAnswer answered
+listedAnswer-injective = answer-injective Listed.Length Listed.Refused listedAnswer back
+  where
+    back : (x : Listed) → answered Listed.Length Listed.Refused (listedAnswer x) ≡ x
+    back (Listed.Length n) = refl
+    back (Listed.Refused r) = refl
