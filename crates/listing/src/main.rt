@@ -10,12 +10,18 @@ fn print(text: &[u8]) {
     }
 }
 
+fn print_refusal(number: u8) {
+    let mut line = io::buffer();
+    let n = text::put_refusal(&mut line, 0, number);
+    print(&line[..n]);
+}
+
 // Prints the listing of a log, or the line of its refusal.
 fn print_listing(log: &[u8]) {
     let mut text = io::buffer();
     match listing_text::list(log, &mut text) {
         Listed::Length(n) => print(&text[..n]),
-        Listed::Refused(_) => print(b"refused\t1\n"),
+        Listed::Refused(r) => print_refusal(r.number),
     }
 }
 

@@ -13,12 +13,18 @@ use console::print_refusal;
 use listing_text::Listed;
 use search::Found;
 
+fn print_refusal_line(number: u8) {
+    let mut line = io::buffer();
+    let n = text::put_refusal(&mut line, 0, number);
+    console::print(&line[..n]);
+}
+
 // Document 01's listing, or the line of its refusal.
 fn list(log: &[u8]) {
     let mut text = io::buffer();
     match listing_text::list(log, &mut text) {
         Listed::Length(n) => console::print(&text[..n]),
-        Listed::Refused(_) => console::print(b"refused\t1\n"),
+        Listed::Refused(r) => print_refusal_line(r.number),
     }
 }
 

@@ -28,3 +28,7 @@ decimal n = decimalIn n n
 unfoldable pub tabbed : List ℕ → List (List ℕ) → List ℕ
 tabbed f [] = f ++ ascii "\n"
 tabbed f (g ∷ fs) = (f ++ ascii "\t") ++ tabbed g fs
+
+-- the line of a refusal by number n
+unfoldable pub refusalLine : ℕ → List ℕ
+refusalLine n = tabbed (ascii "refused") (decimal n ∷ [])

@@ -6,4 +6,5 @@ pub use digits::put_bits;
 pub use put::put_byte;
 pub use put::put_decimal;
 pub use put::put_field;
+pub use put::put_refusal;
 pub use put::put_text;

@@ -1,6 +1,6 @@
 // What is put stands from an index on, as far as the buffer has room. Each function gives the index after it.
 ghost use mathlib.Core.List.{[], _∷_, _++_};
-ghost use Rattle.text.specs.Text.{ascii, decimal};
+ghost use Rattle.text.specs.Text.{ascii, decimal, refusalLine};
 ghost use Rattle.text.specs.Put.{Put};
 
 pub fn put_byte(out: &mut [u8], at: usize, b: u8) -> usize
@@ -43,4 +43,13 @@ pub fn put_text(out: &mut [u8], at: usize, text: &[u8]) -> usize
         i += 1;
     }
     next
+}
+
+// Puts the line of a refusal: `refused`, a tab and its number.
+pub fn put_refusal(out: &mut [u8], at: usize, number: u8) -> usize
+    ensures { λ r. ⌜ Put (now (out .entry)) at (refusalLine number) (now (out .exit)) r ⌝ }
+{
+    let next = put_text(out, at, b"refused\t");
+    let end = put_decimal(out, next, number as usize);
+    put_byte(out, end, b'\n')
 }
