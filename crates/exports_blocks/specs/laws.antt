@@ -1,2 +1,3 @@
 -- Laws about the definitions of this crate.
 pub mod ReadAgain
+pub mod WrittenValues

@@ -29,6 +29,7 @@ use Rattle.search.specs.Search as Search
 use Rattle.search.specs.Search.{firstPlace, NoneFrom}
 use Rattle.search.specs.laws.Search.{finds-none}
 use Rattle.listing_text.specs.Listing as Listing
+use Rattle.listing_text.specs.laws.Listing as Listed
 use Rattle.record.specs.Source.{recordOf, headerBits, recordBits}
 use Rattle.record.specs.Writable.{writable}
 use Rattle.record.specs.laws.Held.{header-bits, record-bits}
@@ -104,6 +105,10 @@ module _ (s : List ℕ) (p : ℕ) where
   unfolding byLines Feed.feed
   refusals-feed n = ap (refuseIf _ 13 n) refusals-read
 
+pub refusals-list : (s : List ℕ) → Listing.list s ≡ byLines (logLines s) (accepted (length (Listing.listing s)))
+unfolding byLines Listing.list
+refusals-list s = refl
+
 pub refusals-write : (r : Record) (buffer : List ℕ) → Writer.write r buffer ≡ byLines (recordLines r ++ bufferLines buffer) (accepted tt)
 unfolding byLines Writer.write
 refusals-write r buffer = refl
@@ -148,6 +153,9 @@ refusals-time page week second = refl
 
 pub no-byte-written : (r : Record) (polarity : Polarity) (buffer : List ℕ) (n d : ℕ) → Writer.write r buffer ≡ refused n d → Writer.bufferAfter r polarity buffer ≡ buffer
 no-byte-written r polarity buffer n d e = after-refusal r buffer polarity n d e
+
+pub no-byte-listed : (s buffer : List ℕ) (n d : ℕ) → Listing.list s ≡ refused n d → Listing.bufferAfter s buffer ≡ buffer
+no-byte-listed s buffer n d e = Listed.after-refusal s buffer n d e
 
 pub no-byte-of-values : {A B : Type 0} (lent : B) (values : A → B) (answer : Answer A) (n d : ℕ) → answer ≡ refused n d → fromValue lent values answer ≡ lent
 unfolding fromValue

@@ -23,6 +23,10 @@ use Rattle.search.specs.Search.{foundAnswer, FirstAccepted}
 use Rattle.search.specs.laws.Search.{foundAnswer-injective, finds}
 use Rattle.search.specs.declared.place.Found.{Found}
 use Rattle.search.specs.declared.place.Found.the-variants as Found
+use Rattle.listing_text.specs.Listing as Listing
+use Rattle.listing_text.specs.Listing.{listedAnswer}
+use Rattle.listing_text.specs.declared.listing.Listed.{Listed}
+use Rattle.listing_text.specs.declared.listing.Listed.the-variants as Listed
 use Rattle.record.specs.declared.record.Record.{Record}
 use Rattle.reader.specs.Reader as Reader
 use Rattle.reader.specs.Reader.{readingAnswer}
@@ -53,6 +57,12 @@ pub write-refused : (r : Record) (polarity : Polarity) (buffer after : List ℕ)
 unfolding checkedAnswer
 write-refused r polarity buffer after w answer left x e =
     left ∙ Demands.no-byte-written r polarity buffer (x .number) (x .detail) (sym answer ∙ ap checkedAnswer e)
+
+-- `list`: the same
+pub list-refused : (s buffer after : List ℕ) (r : Listed) → listedAnswer r ≡ Listing.list s → after ≡ Listing.bufferAfter s buffer
+    → (x : Refusal) → r ≡ Listed.Refused x → after ≡ buffer
+unfolding listedAnswer
+list-refused s buffer after r answer left x e = left ∙ Demands.no-byte-listed s buffer (x .number) (x .detail) (sym answer ∙ ap listedAnswer e)
 
 -- `feed`: a refusal gives the collector back as it was
 pub feed-refused : (c after : Collector) (s : List ℕ) (p n : ℕ) (w : Checked)

@@ -32,18 +32,10 @@ use Rattle.record.specs.declared.record.Record.the-variants as R
 use Rattle.values.specs.Values.{padded, valuesOfSubframe1, valuesOfSubframe2, valuesOfSubframe3, valuesOfAlmanac, valuesOfUtc, valuesOfOther, valuesOf}
 use Rattle.kind.specs.Number.{kindNumber}
 use Rattle.from_values.specs.FromValues.{between, natural32, whole32, naturalAt, wholeAt, headerFrom, subframe1From, subframe2From, subframe3From, almanacFrom, utcFrom, otherFrom, recordFrom, isKindNumber}
+use Rattle.from_values.specs.InStruct.{Fits32, AllFit32, Af0Fits32, InStruct}
 use Rattle.from_values.specs.laws.Machine.{natural-fits, whole-fits}
 
 -- ---- fields of 32 bits
-
--- an unsigned field of a struct is a u32, and a signed one an i32
-abbrev pub Holds : (f : Field) → Value f → Type 0
-Holds (u w) n = Fits w32 n
-Holds (s w) z = SFits w32 z
-
-abbrev pub HoldsAll : (l : Layout) → Values l → Type 0
-HoldsAll [] v = Unit {0}
-HoldsAll (f ∷ l) v = Holds f (v .0) × HoldsAll l (v .1)
 
 -- what a struct's field holds of a value
 held : (f : Field) → Value f → Value f
@@ -59,23 +51,23 @@ unfolding whole32 between
 whole-held (pos n) h = rw (le-leb n 2147483647 (omega arith))
 whole-held (negsuc n) h = rw (le-leb n 2147483647 (omega arith))
 
-held-is : (f : Field) (v : Value f) → Holds f v → held f v ≡ v
+held-is : (f : Field) (v : Value f) → Fits32 f v → held f v ≡ v
 unfolding held natural32 between
 held-is (u w) n h = rw (le-leb 0 n (omega arith), le-leb n 4294967295 (omega arith))
 held-is (s w) z h = whole-held z h
 
-all-held : (l : Layout) (v : Values l) → HoldsAll l v → heldAll l v ≡ v
+all-held : (l : Layout) (v : Values l) → AllFit32 l v → heldAll l v ≡ v
 unfolding heldAll
 all-held [] v h = refl
 all-held (f ∷ l) v h = λ i. (held-is f (v .0) (h .0) i, all-held l (v .1) (h .1) i)
 
 -- what is within a field of the message, of at most 32 bits, fits
-held-within : (f : Field) → width f ≤ 32 → (v : Value f) → within f v ≡ true → Holds f v
+held-within : (f : Field) → width f ≤ 32 → (v : Value f) → within f v ≡ true → Fits32 f v
 unfolding within isSigned
 held-within (u w) m n h = record { fits = omega (arith, ltb-true n (2 ^ w) h, pow-mono {i = w} {j = 32} m) }
 held-within (s w) m z h = record { sfits = omega (arith, ltb-true (mag z) (half w) h, pow-mono {i = w} {j = 32} m) }
 
-all-within : (l : Layout) → widths1to32 l ≡ true → (v : Values l) → allWithin l v ≡ true → HoldsAll l v
+all-within : (l : Layout) → widths1to32 l ≡ true → (v : Values l) → allWithin l v ≡ true → AllFit32 l v
 unfolding allWithin
 all-within [] m v h = tt
 all-within (f ∷ l) m v h =
@@ -106,31 +98,16 @@ fieldsAt [] i v = tt
 fieldsAt (u w ∷ l) i v = (naturalAt v i, fieldsAt l (suc i) v)
 fieldsAt (s w ∷ l) i v = (wholeAt v i, fieldsAt l (suc i) v)
 
-all-made : (l : Layout) (i : ℕ) (v : List ℤ) → HoldsAll l (fieldsAt l i v)
+all-made : (l : Layout) (i : ℕ) (v : List ℤ) → AllFit32 l (fieldsAt l i v)
 unfolding fieldsAt
 all-made [] i v = tt
 all-made (u w ∷ l) i v = (natural-made _, all-made l (suc i) v)
 all-made (s w ∷ l) i v = (whole-made _, all-made l (suc i) v)
 
--- ---- records
-
--- an almanac page's af0, which the message has in two parts, is one field of the struct
-abbrev Af0Holds : Record → Type 0
-Af0Holds (R.Subframe1 r) = Unit {0}
-Af0Holds (R.Subframe2 r) = Unit {0}
-Af0Holds (R.Subframe3 r) = Unit {0}
-Af0Holds (R.Almanac r) = SFits w32 (r .af0)
-Af0Holds (R.Utc r) = Unit {0}
-Af0Holds (R.Other r) = Unit {0}
-
--- the struct holds the record
-pub record InStruct (r : Record) : Type 0 where
-  pub in-header : HoldsAll headerFields (headerValues (header r))
-  pub in-fields : HoldsAll (fieldsOf (kindOf r)) (fieldValues r)
-  pub in-af0 : Af0Holds r
+-- ---- a record that the writer takes
 
 -- the two parts of af0 are within their fields only where it is one of 11 bits
-af0-within : (r : Record) → Taken r → Af0Holds r
+af0-within : (r : Record) → Taken r → Af0Fits32 r
 unfolding isSigned
 af0-within (R.Subframe1 r) t = tt
 af0-within (R.Subframe2 r) t = tt
@@ -189,11 +166,11 @@ unsigned-most z = go (isSigned 11 z) refl
     go false e = omega (arith, unsigned-outside 11 z (ltb-false (mag z) 1024 e))
 
 module _ (v : List ℤ) where
-  header-made : HoldsAll headerFields (headerValues (headerFrom v))
+  header-made : AllFit32 headerFields (headerValues (headerFrom v))
   unfolding fieldsAt headerFrom
   header-made = all-made headerFields 0 v
 
-  almanac-made : HoldsAll (fieldsOf Almanac) (almanacValues (almanacFrom v))
+  almanac-made : AllFit32 (fieldsOf Almanac) (almanacValues (almanacFrom v))
   unfolding almanacFrom
   almanac-made =
       let n = natural-made in

@@ -24,7 +24,8 @@ use Rattle.values.specs.Values.{padded, valuesOfSubframe1, valuesOfSubframe2, v
 use Rattle.kind.specs.Number.{kindNumber}
 use Rattle.from_values.specs.FromValues as FromValues
 use Rattle.from_values.specs.FromValues.{subframe1From, utcFrom, recordFrom, sameValues, isKindNumber, having}
-use Rattle.from_values.specs.laws.InStruct.{InStruct, subframe1-of-values, utc-page-of-values, record-of-values, record-made}
+use Rattle.from_values.specs.InStruct.{InStruct}
+use Rattle.from_values.specs.laws.InStruct.{subframe1-of-values, utc-page-of-values, record-of-values, record-made}
 
 -- ---- 25 values
 
@@ -63,7 +64,7 @@ same-equal v w lv lw h =
 
 -- ---- any record with values
 
--- In is what every record that is made from values is; each record that is so is the one from its own values
+-- every record that is made from values is In, and each that is In is the one from its own values
 pub having-exactly : {A : Type 0} (values : A → List ℤ) (from : List ℤ → A) (In : A → Type 0) → ((a : A) → length (values a) ≡ 25)
     → ((a : A) → In a → from (values a) ≡ a) → ((v : List ℤ) → In (from v))
     → (v : List ℤ) → length v ≡ 25 → (a : A) → (having values from v ≡ accepted a) ↔ ((values a ≡ v) × In a)
@@ -120,24 +121,25 @@ module _ (kind : ℕ) (v : List ℤ) (l : length v ≡ 25) where
         line-accepts (not (isKindNumber kind)) 11 0 _ r .1 (ap not h, kind-exactly h r .1 (has, (is, holds))),
   )
 
-  -- what is not taken is refused by 11
-  refused-11 : ((r : Record) → FromValues.recordWith kind v ≡ accepted r → ⊥) → FromValues.recordWith kind v ≡ refused 11 0
+  -- the only refusal is by 11
+  pub only-11 : (n d : ℕ) → FromValues.recordWith kind v ≡ refused n d → FromValues.recordWith kind v ≡ refused 11 0
   unfolding FromValues.recordWith having refuseIf
-  refused-11 = go (isKindNumber kind) (sameValues (valuesOf (recordFrom kind v)) v)
+  only-11 n d = go (isKindNumber kind) (sameValues (valuesOf (recordFrom kind v)) v)
     where
       lines : Bool → Bool → Answer Record
       lines t u = refuseIf (not t) 11 0 (refuseIf (not u) 11 0 (accepted (recordFrom kind v)))
 
-      go : (t u : Bool) → ((r : Record) → lines t u ≡ accepted r → ⊥) → lines t u ≡ refused 11 0
-      go false u none = refl
-      go true false none = refl
-      go true true none = absurd (none (recordFrom kind v) refl)
+      go : (t u : Bool) → lines t u ≡ refused n d → lines t u ≡ refused 11 0
+      go false u e = refl
+      go true false e = refl
+      go true true e = absurd (refused-not n d (recordFrom kind v) (sym e))
 
   pub refused-exactly : (FromValues.recordWith kind v ≡ refused 11 0) ↔ ((r : Record) → (kindNumber r ≡ kind) × (valuesOf r ≡ v) × InStruct r → ⊥)
-  refused-exactly = (
-    λ e r is. refused-not 11 0 r (sym e ∙ values-exactly r .1 is),
-    λ none. refused-11 (λ r e. none r (values-exactly r .0 e)),
-  )
+  refused-exactly = (λ e r is. refused-not 11 0 r (sym e ∙ values-exactly r .1 is), λ none. go (FromValues.recordWith kind v) refl none)
+    where
+      go : (x : Answer Record) → FromValues.recordWith kind v ≡ x → ((r : Record) → (kindNumber r ≡ kind) × (valuesOf r ≡ v) × InStruct r → ⊥) → FromValues.recordWith kind v ≡ refused 11 0
+      go (accepted r) e none = absurd (none r (values-exactly r .0 e))
+      go (refused n d) e none = only-11 n d e
 
 -- a record is determined by its kind's number and its values
 pub one-record : (r s : Record) → InStruct r → InStruct s → kindNumber r ≡ kindNumber s → valuesOf r ≡ valuesOf s → r ≡ s

@@ -12,7 +12,8 @@ use Rattle.bits.specs.Bits.{bitsAt}
 use Rattle.bits.specs.laws.Pack.{pack-lt}
 use Rattle.text.specs.Text.{ascii, decimal, tabbed}
 use Rattle.text.specs.laws.Text.{decimal-short, tabbed-last, tabbed-more}
-use Rattle.answer.specs.Answer.{accepted, refused, refuseIf, fromValue}
+use Rattle.answer.specs.Answer.{accepted, refused, ByNumber, refuseIf, fromValue}
+use Rattle.answer.specs.laws.ByNumber.{accepted-by-number, line-by-number}
 use Rattle.answer.specs.laws.Lines.{answered, answer-injective}
 use Rattle.parity.specs.Word.{sourceBit}
 use Rattle.block.specs.Block.{Block, window, field, count, subframeNumber}
@@ -87,6 +88,10 @@ module _ (s : List ℕ) where
   pub list-gives : length s ≤ 65536 → Listing.list s ≡ accepted (length (listing s))
   unfolding Listing.list refuseIf
   list-gives h = rw (le-ltb 65536 (length s) h)
+
+  pub list-by-number : ByNumber (Listing.list s)
+  unfolding Listing.list
+  list-by-number = line-by-number _ 0 _ _ (accepted-by-number (length (listing s)))
 
   module _ (buffer : List ℕ) where
     -- a refusal leaves the buffer as it was
