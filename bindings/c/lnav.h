@@ -65,6 +65,12 @@ struct lnav_reading {
     uint8_t kind;
 };
 
+/* The length of a listing; 0 where refused. */
+struct lnav_listing {
+    struct lnav_answer answer;
+    size_t length;
+};
+
 /* The clock terms, each exactly the field times its scale; 0 where refused. */
 struct lnav_terms {
     struct lnav_answer answer;
@@ -106,9 +112,9 @@ struct lnav_reading lnav_read(const uint8_t *log, size_t length, size_t place, i
  * by 11, or by 12 where the buffer is shorter; it then stays as it was. */
 struct lnav_answer lnav_write(uint8_t kind, const int64_t values[LNAV_VALUES], bool inverted, uint8_t *block, size_t length);
 
-/* Puts the listing program's text for the log at the start of the buffer, and gives its length. There is no zero byte after it; the bytes
- * after it stay as they were. */
-size_t lnav_list(const uint8_t *log, size_t length, uint8_t text[LNAV_LISTING]);
+/* Puts the listing of the log, a header line and a line for each accepted block, at the start of the buffer, and gives its length. There is
+ * no zero byte after it; the bytes after it stay as they were. Refused by 1; the buffer then stays as it was. */
+struct lnav_listing lnav_list(const uint8_t *log, size_t length, uint8_t text[LNAV_LISTING]);
 
 /* The clock terms of a subframe 1. Refused by 11. */
 struct lnav_terms lnav_clock_terms(const int64_t values[LNAV_VALUES]);

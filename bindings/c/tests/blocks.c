@@ -200,7 +200,12 @@ static void test_list(void) {
     lists(inverted, sizeof inverted, "place\tid\tcount\tpolarity\n5\t1\t0\tI\n", HERE);
     lists(zeros, 0, header, HERE);
     lists(zeros, LNAV_LONGEST_LOG, header, HERE);
-    lists(zeros, LNAV_LONGEST_LOG + 1, "refused\t1\n", HERE);
+    uint8_t text[LNAV_LISTING];
+    memset(text, 7, sizeof text);
+    struct lnav_listing listing = lnav_list(zeros, LNAV_LONGEST_LOG + 1, text);
+    ANSWERS(listing.answer, 1, LNAV_LONGEST_LOG + 1);
+    CHECK(listing.length == 0);
+    CHECK(all_are(text, sizeof text, 7));
 }
 
 void test_blocks(void) {

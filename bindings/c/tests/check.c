@@ -40,7 +40,9 @@ bool all_values_are(const values_t values, int64_t value) {
 void lists(const uint8_t *log, size_t length, const char *expected, const char *where) {
     uint8_t text[LNAV_LISTING];
     memset(text, 7, sizeof text);
-    size_t size = lnav_list(log, length, text);
+    struct lnav_listing listing = lnav_list(log, length, text);
+    size_t size = listing.length;
+    answers(listing.answer, 0, 0, "lnav_list", where);
     check(size == strlen(expected) && memcmp(text, expected, size) == 0, "the listing", where);
     check(all_are(text + size, sizeof text - size, 7), "the rest of the buffer stays", where);
 }

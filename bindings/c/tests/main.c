@@ -8,6 +8,7 @@ static void test_layout(void) {
     CHECK(offsetof(struct lnav_answer, detail) == 8);
     CHECK(sizeof(struct lnav_found) == 24 && offsetof(struct lnav_found, place) == 16);
     CHECK(sizeof(struct lnav_reading) == 24 && offsetof(struct lnav_reading, kind) == 16);
+    CHECK(sizeof(struct lnav_listing) == 24 && offsetof(struct lnav_listing, length) == 16);
     CHECK(sizeof(struct lnav_terms) == 48 && offsetof(struct lnav_terms, tgd) == 16);
     CHECK(offsetof(struct lnav_terms, af0) == 24 && offsetof(struct lnav_terms, af1) == 32);
     CHECK(offsetof(struct lnav_terms, af2) == 40);

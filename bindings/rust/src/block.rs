@@ -127,17 +127,18 @@ pub fn block(record: &Record, polarity: Polarity) -> Result<[u8; BLOCK], Refusal
     Ok(block)
 }
 
-/// The listing program's text for the log: a header line, then place, subframe number, count and polarity of each accepted block.
+/// The listing of the log: a header line, then place, subframe number, count and polarity of each accepted block. Refused by 1.
 ///
 /// ```
-/// assert_eq!(lnav::list(&[0; 500]), "place\tid\tcount\tpolarity\n");
-/// assert_eq!(lnav::list(&[0; 65_537]), "refused\t1\n");
+/// assert_eq!(lnav::list(&[0; 500])?, "place\tid\tcount\tpolarity\n");
+/// assert_eq!(lnav::list(&[0; 65_537]), Err(lnav::Refusal { number: 1, detail: 65_537 }));
+/// # Ok::<(), lnav::Refusal>(())
 /// ```
-pub fn list(log: &[u8]) -> String {
+pub fn list(log: &[u8]) -> Result<String, Refusal> {
     let mut text = [0; 4096];
-    let length = raw::list(log, &mut text);
-    text[..length]
+    let length = raw::list(log, &mut text)?;
+    Ok(text[..length]
         .iter()
         .map(|&byte| char::from(byte))
-        .collect()
+        .collect())
 }

@@ -35,6 +35,12 @@ pub struct Reading {
 }
 
 #[repr(C)]
+pub struct Listing {
+    pub answer: Answer,
+    pub length: usize,
+}
+
+#[repr(C)]
 pub struct Terms {
     pub answer: Answer,
     pub tgd: f64,
@@ -71,7 +77,7 @@ extern "C" {
         block: *mut u8,
         length: usize,
     ) -> Answer;
-    pub fn lnav_list(log: *const u8, length: usize, text: &mut [u8; 4096]) -> usize;
+    pub fn lnav_list(log: *const u8, length: usize, text: &mut [u8; 4096]) -> Listing;
     pub fn lnav_clock_terms(values: &Values) -> Terms;
     pub fn lnav_accuracy(values: &Values) -> RangeAccuracy;
     pub fn lnav_time_of_day(values: &Values, week: u32, second: u32) -> Time;

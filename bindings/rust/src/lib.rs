@@ -17,7 +17,7 @@
 //! let place = lnav::find(&log, 0)?;
 //! assert_eq!(place, 5);
 //! assert_eq!(lnav::read(&log, place)?, Record::Subframe1(sent));
-//! assert_eq!(lnav::list(&log), "place\tid\tcount\tpolarity\n5\t1\t0\tU\n");
+//! assert_eq!(lnav::list(&log)?, "place\tid\tcount\tpolarity\n5\t1\t0\tU\n");
 //! # Ok::<(), lnav::Refusal>(())
 //! ```
 #![deny(missing_docs)]

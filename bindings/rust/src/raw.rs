@@ -85,16 +85,19 @@ pub fn write(kind: u8, values: &Values, inverted: bool, block: &mut [u8]) -> Res
     unsafe { ffi::lnav_write(kind, values, inverted, block.as_mut_ptr(), block.len()) }.give(())
 }
 
-/// Puts the listing program's text for the log at the start of the buffer, and gives its length. The bytes after it stay as they were.
+/// Puts the listing of the log, a header line and a line for each accepted block, at the start of the buffer, and gives its length. The bytes
+/// after it stay as they were. Refused by 1.
 ///
 /// ```
 /// let mut text = [0; 4096];
-/// let length = lnav::raw::list(&[], &mut text);
+/// let length = lnav::raw::list(&[], &mut text)?;
 /// assert_eq!(&text[..length], b"place\tid\tcount\tpolarity\n");
+/// # Ok::<(), lnav::Refusal>(())
 /// ```
-pub fn list(log: &[u8], text: &mut [u8; 4096]) -> usize {
+pub fn list(log: &[u8], text: &mut [u8; 4096]) -> Result<usize, Refusal> {
     // SAFETY: a slice, read only, and an array that is lent for this call alone.
-    unsafe { ffi::lnav_list(log.as_ptr(), log.len(), text) }
+    let listing = unsafe { ffi::lnav_list(log.as_ptr(), log.len(), text) };
+    listing.answer.give(listing.length)
 }
 
 /// The clock terms of a subframe 1. Refused by 11.

@@ -1,4 +1,4 @@
--- Definitions. What the search and the reader answer, as plain numbers: number and detail, then the value, 0 where the call is refused.
+-- Definitions. What the search, the reader and the listing answer, as plain numbers: number and detail, then the value, 0 where the call is refused.
 use mathlib.Core.Bool.{Bool, true, false}
 use Prim.Native.Nat.{ℕ}
 use Rattle.answer.specs.Answer.{Answer, fromValue}
@@ -9,6 +9,7 @@ use Rattle.kind.specs.Number.{kindNumber}
 use Rattle.told.specs.Told.{told}
 use Rattle.exports_blocks.specs.declared.blocks.LnavFound.{LnavFound}
 use Rattle.exports_blocks.specs.declared.blocks.LnavReading.{LnavReading}
+use Rattle.exports_blocks.specs.declared.listing.LnavListing.{LnavListing}
 
 unfoldable pub isInverted : Polarity → Bool
 isInverted Upright = false
@@ -23,3 +24,6 @@ foundTold a = record { answer = told a; place = fromValue 0 (λ q. q) a }
 
 unfoldable pub readingTold : Answer Record → LnavReading
 readingTold a = record { answer = told a; kind = fromValue 0 kindNumber a }
+
+unfoldable pub listingTold : Answer ℕ → LnavListing
+listingTold a = record { answer = told a; length = fromValue 0 (λ n. n) a }

@@ -10,4 +10,5 @@ pub use blocks::lnav_find;
 pub use blocks::lnav_inverted;
 pub use blocks::lnav_read;
 pub use blocks::lnav_write;
+pub use listing::LnavListing;
 pub use listing::lnav_list;

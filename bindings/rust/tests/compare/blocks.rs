@@ -42,10 +42,12 @@ pub fn compare_feed(tally: &mut Tally, log: &[u8], p: usize, satellite: usize) {
 fn compare_list(tally: &mut Tally, random: &mut Random, log: &[u8]) {
     let mut out = [random.next() as u8; 4096];
     let mut wanted = out.to_vec();
-    let text = paper::list(log);
-    wanted[..text.len()].copy_from_slice(&text);
-    let length = raw::list(log, &mut out);
-    let (paper, library) = ((Ok(text.len()), wanted), (Ok(length), out.to_vec()));
+    let length = paper::list(log).map(|text| {
+        wanted[..text.len()].copy_from_slice(&text);
+        text.len()
+    });
+    let answer = raw::list(log, &mut out);
+    let (paper, library) = ((length, wanted), (answer, out.to_vec()));
     tally.compare("list", paper, library, || show(log, 0));
 }
 

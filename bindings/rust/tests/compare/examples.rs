@@ -51,9 +51,9 @@ fn listing_example() {
     assert_eq!(one[59..67], [1, 1, 0, 1, 0, 1, 0, 0]);
     let text = b"place\tid\tcount\tpolarity\n5\t1\t0\tU\n";
     let mut out = [0; 4096];
-    let length = raw::list(&one, &mut out);
+    let length = raw::list(&one, &mut out).expect("a listing");
     assert_eq!(out[..length], text[..]);
-    assert_eq!(paper::list(&one), text);
+    assert_eq!(paper::list(&one), Ok(text.to_vec()));
 }
 
 /// The board examples of the UTC time, by both.

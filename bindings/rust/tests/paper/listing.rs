@@ -1,11 +1,10 @@
-// The output of the listing program for one log.
+// The listing of one log: a header line, and a line for each accepted block on the walk.
 use super::block::{check, check_log, inverted, BLOCK};
 use super::record::read;
+use super::Refusal;
 
-pub fn list(log: &[u8]) -> Vec<u8> {
-    if check_log(log).is_err() {
-        return b"refused\t1\n".to_vec();
-    }
+pub fn list(log: &[u8]) -> Result<Vec<u8>, Refusal> {
+    check_log(log)?;
     let mut text = String::from("place\tid\tcount\tpolarity\n");
     let mut p = 0;
     while log.len() - p >= BLOCK {
@@ -16,7 +15,7 @@ pub fn list(log: &[u8]) -> Vec<u8> {
             p += 1;
         }
     }
-    text.into_bytes()
+    Ok(text.into_bytes())
 }
 
 fn line(log: &[u8], p: usize) -> String {

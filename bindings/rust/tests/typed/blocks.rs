@@ -45,11 +45,9 @@ fn search() {
 fn listing() {
     let log = example();
     let inverted: Vec<u8> = log.iter().map(|bit| 1 - bit).collect();
-    assert_eq!(lnav::list(&log), "place\tid\tcount\tpolarity\n5\t1\t0\tU\n");
-    assert_eq!(
-        lnav::list(&inverted),
-        "place\tid\tcount\tpolarity\n5\t1\t0\tI\n"
-    );
-    assert_eq!(lnav::list(&[0; 65_536]), "place\tid\tcount\tpolarity\n");
-    assert_eq!(lnav::list(&[0; 65_537]), "refused\t1\n");
+    let header = "place\tid\tcount\tpolarity\n";
+    assert_eq!(lnav::list(&log), Ok(format!("{header}5\t1\t0\tU\n")));
+    assert_eq!(lnav::list(&inverted), Ok(format!("{header}5\t1\t0\tI\n")));
+    assert_eq!(lnav::list(&[0; 65_536]), Ok(header.to_string()));
+    assert_eq!(lnav::list(&[0; 65_537]), refused(1, 65_537));
 }

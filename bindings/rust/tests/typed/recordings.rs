@@ -34,7 +34,7 @@ fn recording() {
         Ok((17995, 16158))
     );
     assert_eq!(history.utc_page(), refused(20, 0));
-    let listing = lnav::list(&log);
+    let listing = lnav::list(&log).unwrap();
     assert_eq!(listing.lines().count(), 41);
     assert!(listing.ends_with("\n11700\t4\t18034\tU\n"));
 }
