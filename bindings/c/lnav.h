@@ -59,6 +59,12 @@ struct lnav_found {
     size_t place;
 };
 
+/* Whether a block is inverted; false where refused. */
+struct lnav_polarity {
+    struct lnav_answer answer;
+    bool inverted;
+};
+
 /* The kind of a record that was read; 0 where refused. */
 struct lnav_reading {
     struct lnav_answer answer;
@@ -101,9 +107,8 @@ struct lnav_answer lnav_check(const uint8_t *log, size_t length, size_t place);
 /* The place of the first accepted block at or after the given place. Refused by 1, or by 10 where there is none. */
 struct lnav_found lnav_find(const uint8_t *log, size_t length, size_t place);
 
-/* Whether the bit at the place is 1. An accepted block begins with 11 where the stream is inverted, and else with 00. A place past the end
- * counts as 0, and a byte counts modulo 2. */
-bool lnav_inverted(const uint8_t *log, size_t length, size_t place);
+/* Whether the block at the place is inverted: its start pair is 11, and 00 where it is upright. Refused as the block check refuses. */
+struct lnav_polarity lnav_inverted(const uint8_t *log, size_t length, size_t place);
 
 /* Reads the record of the block at the place. Refused as the block check refuses; the values then stay as they were. */
 struct lnav_reading lnav_read(const uint8_t *log, size_t length, size_t place, int64_t values[LNAV_VALUES]);

@@ -184,12 +184,26 @@ static void test_find(void) {
     ANSWERS(lnav_find(zeros, LNAV_LONGEST_LOG + 1, 7).answer, 1, LNAV_LONGEST_LOG + 1);
 }
 
+// The polarity of the example and of its inverse, and at every other place the refusal of the block check, also where the bits are 1.
 static void test_inverted(void) {
-    static const uint8_t log[] = {0, 1, 2, 255};
-    static const bool expected[] = {false, true, false, true, false};
-    for (size_t i = 0; i < 5; i++) CHECK(lnav_inverted(log, sizeof log, i) == expected[i]);
-    CHECK(!lnav_inverted(log, sizeof log, SIZE_MAX));
-    CHECK(!lnav_inverted(log, 0, 0));
+    uint8_t log[sizeof example];
+    for (uint8_t flip = 0; flip < 2; flip++) {
+        for (size_t i = 0; i < sizeof log; i++) log[i] = example[i] ^ flip;
+        struct lnav_polarity polarity = lnav_inverted(log, sizeof log, 5);
+        ACCEPTED(polarity.answer);
+        CHECK(polarity.inverted == flip);
+        for (size_t i = 0; i <= sizeof log; i++) {
+            if (i == 5) continue;
+            struct lnav_answer answer = lnav_check(log, sizeof log, i);
+            polarity = lnav_inverted(log, sizeof log, i);
+            ANSWERS(polarity.answer, answer.number, answer.detail);
+            CHECK(answer.number != 0 && !polarity.inverted);
+        }
+    }
+    log[5 + 301] = 2;
+    ANSWERS(lnav_inverted(log, sizeof log, 5).answer, 2, 5 + 301);
+    ANSWERS(lnav_inverted(log, sizeof log, SIZE_MAX).answer, 3, SIZE_MAX);
+    ANSWERS(lnav_inverted(zeros, LNAV_LONGEST_LOG + 1, 0).answer, 1, LNAV_LONGEST_LOG + 1);
 }
 
 static void test_list(void) {

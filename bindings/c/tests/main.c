@@ -7,6 +7,7 @@ static void test_layout(void) {
     CHECK(sizeof(struct lnav_answer) == 16 && offsetof(struct lnav_answer, number) == 0);
     CHECK(offsetof(struct lnav_answer, detail) == 8);
     CHECK(sizeof(struct lnav_found) == 24 && offsetof(struct lnav_found, place) == 16);
+    CHECK(sizeof(struct lnav_polarity) == 24 && offsetof(struct lnav_polarity, inverted) == 16);
     CHECK(sizeof(struct lnav_reading) == 24 && offsetof(struct lnav_reading, kind) == 16);
     CHECK(sizeof(struct lnav_listing) == 24 && offsetof(struct lnav_listing, length) == 16);
     CHECK(sizeof(struct lnav_terms) == 48 && offsetof(struct lnav_terms, tgd) == 16);

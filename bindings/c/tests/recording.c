@@ -22,7 +22,7 @@ static void test_recorded_blocks(void) {
         struct lnav_reading reading = lnav_read(recording, RECORDING_LENGTH, place, values);
         ACCEPTED(reading.answer);
         CHECK(values[COUNT] == (int64_t)(17995 + i) && values[SUBFRAME] == (int64_t)((i + 4) % 5 + 1));
-        bool inverted = lnav_inverted(recording, RECORDING_LENGTH, place);
+        bool inverted = lnav_inverted(recording, RECORDING_LENGTH, place).inverted;
         ACCEPTED(lnav_write(reading.kind, values, inverted, block, sizeof block));
         CHECK(memcmp(block, recording + place, sizeof block) == 0);
         sprintf(text + strlen(text), "%zu\t%zu\t%zu\tU\n", place, (i + 4) % 5 + 1, 17995 + i);

@@ -10,7 +10,7 @@ static void test_round_trip(uint8_t kind, const values_t values) {
         set_all(read, -7);
         ACCEPTED(lnav_write(kind, values, inverted, block, sizeof blocks[0]));
         CHECK(all_are(block + LNAV_BLOCK, 8, 7));
-        CHECK(lnav_inverted(block, LNAV_BLOCK, 0) == inverted);
+        CHECK(lnav_inverted(block, LNAV_BLOCK, 0).inverted == inverted);
         struct lnav_reading reading = lnav_read(block, LNAV_BLOCK, 0, read);
         ACCEPTED(reading.answer);
         CHECK(reading.kind == kind);

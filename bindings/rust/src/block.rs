@@ -58,18 +58,23 @@ pub fn find_part(log: &[u8], place: usize) -> Result<&[u8], Refusal> {
     find(log, place).map(|found| &log[found..found + BLOCK])
 }
 
-/// The polarity of the block at the place, by its first bit. It says something where the block is accepted; a place past the end is upright,
-/// and a byte counts modulo 2.
+/// The polarity of the block at the place. Refused as the block check refuses.
 ///
 /// ```
-/// assert_eq!(lnav::polarity(&[1, 1, 0], 0), lnav::Polarity::Inverted);
+/// # use lnav::{Polarity, Record, Subframe1};
+/// # let mut sent = Subframe1::default();
+/// # sent.header.subframe = 1;
+/// let log = lnav::block(&Record::Subframe1(sent), Polarity::Inverted)?;
+/// assert_eq!(lnav::polarity(&log, 0), Ok(Polarity::Inverted));
+/// assert_eq!(lnav::polarity(&[1; 302], 0), Err(lnav::Refusal { number: 6, detail: 0 }));
+/// # Ok::<(), lnav::Refusal>(())
 /// ```
-pub fn polarity(log: &[u8], place: usize) -> Polarity {
-    if raw::inverted(log, place) {
+pub fn polarity(log: &[u8], place: usize) -> Result<Polarity, Refusal> {
+    Ok(if raw::inverted(log, place)? {
         Polarity::Inverted
     } else {
         Polarity::Upright
-    }
+    })
 }
 
 /// The record of the block at the place. Refused as the block check refuses.

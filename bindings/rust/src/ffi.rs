@@ -29,6 +29,12 @@ pub struct Found {
 }
 
 #[repr(C)]
+pub struct Polarity {
+    pub answer: Answer,
+    pub inverted: bool,
+}
+
+#[repr(C)]
 pub struct Reading {
     pub answer: Answer,
     pub kind: u8,
@@ -68,7 +74,7 @@ pub struct Time {
 extern "C" {
     pub fn lnav_check(log: *const u8, length: usize, place: usize) -> Answer;
     pub fn lnav_find(log: *const u8, length: usize, place: usize) -> Found;
-    pub fn lnav_inverted(log: *const u8, length: usize, place: usize) -> bool;
+    pub fn lnav_inverted(log: *const u8, length: usize, place: usize) -> Polarity;
     pub fn lnav_read(log: *const u8, length: usize, place: usize, values: &mut Values) -> Reading;
     pub fn lnav_write(
         kind: u8,

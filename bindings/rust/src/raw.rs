@@ -40,16 +40,22 @@ pub fn find(log: &[u8], place: usize) -> Result<usize, Refusal> {
     found.answer.give(found.place)
 }
 
-/// Whether the bit at the place is 1: an accepted block begins with 11 where the stream is inverted, and else with 00. A place past the end
-/// counts as 0, and a byte counts modulo 2.
+/// Whether the block at the place is inverted: its start pair is 11, and 00 where it is upright. Refused as the block check refuses.
 ///
 /// ```
-/// assert!(lnav::raw::inverted(&[0, 1], 1));
-/// assert!(!lnav::raw::inverted(&[0, 1], 2));
+/// # use lnav::raw;
+/// let mut sent = [0; 25];
+/// sent[5] = 1;
+/// let mut block = [0; 302];
+/// raw::write(1, &sent, true, &mut block)?;
+/// assert!(raw::inverted(&block, 0)?);
+/// assert_eq!(raw::inverted(&block, 1).unwrap_err(), lnav::Refusal { number: 3, detail: 1 });
+/// # Ok::<(), lnav::Refusal>(())
 /// ```
-pub fn inverted(log: &[u8], place: usize) -> bool {
+pub fn inverted(log: &[u8], place: usize) -> Result<bool, Refusal> {
     // SAFETY: a slice, read only, and numbers.
-    unsafe { ffi::lnav_inverted(log.as_ptr(), log.len(), place) }
+    let polarity = unsafe { ffi::lnav_inverted(log.as_ptr(), log.len(), place) };
+    polarity.answer.give(polarity.inverted)
 }
 
 /// Reads the record of the block at the place, and gives its kind. Refused as the block check refuses.

@@ -11,20 +11,25 @@ ghost use Rattle.from_values.specs.FromValues as FromValues;
 ghost use Rattle.reader.specs.Reader as Reader;
 ghost use Rattle.search.specs.Search as Search;
 ghost use Rattle.answer.specs.Answer.{fromValue, andThen};
-ghost use Rattle.bits.specs.Bits.{bitsAt};
 ghost use Rattle.block_check.specs.Check as Check;
-ghost use Rattle.block.specs.Polarity.{polarityOf};
 ghost use Rattle.writer.specs.Writer as Writer;
 ghost use Rattle.writer.specs.Writer.{bufferAfter};
 ghost use Rattle.values.specs.Values.{valuesOf};
 ghost use Rattle.told.specs.Told.{told};
-ghost use Rattle.exports_blocks.specs.Told.{foundTold, readingTold, isInverted, polarityWith};
+ghost use Rattle.exports_blocks.specs.Told.{foundTold, readingTold, isInverted, polarityAt, polarityTold, polarityWith};
 
 // A place, as the search answers it.
 #[repr(C)]
 pub struct LnavFound {
     pub answer: LnavAnswer,
     pub place: usize,
+}
+
+// Whether a block is inverted.
+#[repr(C)]
+pub struct LnavPolarity {
+    pub answer: LnavAnswer,
+    pub inverted: bool,
 }
 
 // The number of a record's kind, as the reader answers it.
@@ -59,14 +64,29 @@ pub extern "C" fn lnav_find(log: &[u8], place: usize) -> LnavFound
     }
 }
 
-// Whether the block at a place of a log is inverted.
-#[no_mangle]
-pub extern "C" fn lnav_inverted(log: &[u8], place: usize) -> bool
-    ensures { λ r. ⌜ r ≡ isInverted (polarityOf (bitsAt (now (log .entry)) place)) ⌝ }
+fn is_inverted(polarity: Polarity) -> bool
+    ensures { λ r. ⌜ r ≡ isInverted polarity ⌝ }
 {
-    match block::polarity_at(log, place) {
+    match polarity {
         Polarity::Upright => false,
         Polarity::Inverted => true,
+    }
+}
+
+// Whether the block at a place of a log is inverted. Refused as the block check refuses.
+#[no_mangle]
+pub extern "C" fn lnav_inverted(log: &[u8], place: usize) -> LnavPolarity
+    ensures { λ r. ⌜ r ≡ polarityTold (polarityAt (now (log .entry)) place) ⌝ }
+{
+    match block_check::check_block(log, place) {
+        Checked::Accepted => LnavPolarity {
+            answer: answer_of(Checked::Accepted),
+            inverted: is_inverted(block::polarity_at(log, place)),
+        },
+        Checked::Refused(r) => LnavPolarity {
+            answer: answer_of(Checked::Refused(r)),
+            inverted: false,
+        },
     }
 }
 

@@ -4,6 +4,7 @@ mod blocks;
 mod listing;
 
 pub use blocks::LnavFound;
+pub use blocks::LnavPolarity;
 pub use blocks::LnavReading;
 pub use blocks::lnav_check;
 pub use blocks::lnav_find;

@@ -51,17 +51,20 @@ fn compare_list(tally: &mut Tally, random: &mut Random, log: &[u8]) {
     tally.compare("list", paper, library, || show(log, 0));
 }
 
-/// The polarity of an accepted block, and its inverse: the same record, the other polarity.
-fn compare_accepted(tally: &mut Tally, log: &[u8], p: usize) {
+fn compare_inverted(tally: &mut Tally, log: &[u8], p: usize) {
     let (paper, library) = (paper::inverted(log, p), raw::inverted(log, p));
-    tally.answers("inverted", Ok(paper), Ok(library), || show(log, p));
+    tally.answers("inverted", paper, library, || show(log, p));
+}
+
+/// The inverse of an accepted block: the same record, the other polarity.
+fn compare_accepted(tally: &mut Tally, log: &[u8], p: usize) {
     let mut inverse = log.to_vec();
     invert(&mut inverse[p..p + BLOCK]);
-    let by_paper =
-        paper::inverted(&inverse, p) != paper && paper::read(&inverse, p) == paper::read(log, p);
+    let by_paper = paper::inverted(&inverse, p) == paper::inverted(log, p).map(|i| !i)
+        && paper::read(&inverse, p) == paper::read(log, p);
     let (mut one, mut two) = ([0; 25], [0; 25]);
     let kind = raw::read(log, p, &mut one);
-    let by_library = raw::inverted(&inverse, p) != library
+    let by_library = raw::inverted(&inverse, p) == raw::inverted(log, p).map(|i| !i)
         && raw::read(&inverse, p, &mut two) == kind
         && kind.is_ok()
         && one == two;
@@ -74,6 +77,7 @@ fn compare_accepted(tally: &mut Tally, log: &[u8], p: usize) {
 /// All functions of one block.
 fn compare_at(tally: &mut Tally, random: &mut Random, log: &[u8], p: usize) {
     compare_check(tally, log, p);
+    compare_inverted(tally, log, p);
     compare_read(tally, random, log, p);
     let (odd, usual) = (odd_satellite(random), 1 + random.below(32));
     let satellite = random.rarely(8, &[odd], usual);

@@ -23,9 +23,9 @@ fn compare_write(tally: &mut Tally, random: &mut Random, kind: u8, values: &Valu
             let answer = raw::read(&two, 0, &mut read);
             let right = answer == Ok(kind)
                 && read == *values
-                && raw::inverted(&two, 0) == inverted
+                && raw::inverted(&two, 0) == Ok(inverted)
                 && paper::read(&two, 0) == Ok((kind, *values))
-                && paper::inverted(&two, 0) == inverted;
+                && paper::inverted(&two, 0) == Ok(inverted);
             tally.count("written, read", right, || {
                 format!("kind {kind}, values {values:?}, read {answer:?} {read:?}")
             });

@@ -136,9 +136,10 @@ pub fn find_tuned(log: &[u8], p: usize) -> Result<usize, Refusal> {
     refuse(10, p)
 }
 
-/// Whether the accepted block at p has the start pair 11.
-pub fn inverted(log: &[u8], p: usize) -> bool {
-    log[p..p + 2] == [1, 1]
+/// Whether the block at p has the start pair 11, where it is accepted.
+pub fn inverted(log: &[u8], p: usize) -> Result<bool, Refusal> {
+    check(log, p)?;
+    Ok(log[p..p + 2] == [1, 1])
 }
 
 /// The 30 received bits of a word with these source bits after the bits p and q.

@@ -20,6 +20,7 @@ pub fn list(log: &[u8]) -> Result<Vec<u8>, Refusal> {
 
 fn line(log: &[u8], p: usize) -> String {
     let (_, values) = read(log, p).expect("the block was accepted");
-    let polarity = if inverted(log, p) { 'I' } else { 'U' };
+    let inverted = inverted(log, p).expect("the block was accepted");
+    let polarity = if inverted { 'I' } else { 'U' };
     format!("{p}\t{}\t{}\t{polarity}\n", values[5], values[2])
 }

@@ -24,6 +24,7 @@ fn block_refusals() {
         log[index] ^= flip;
         assert_eq!(lnav::check(&log, 5), refused(number, detail));
         assert_eq!(lnav::read(&log, 5), refused(number, detail));
+        assert_eq!(lnav::polarity(&log, 5), refused(number, detail));
     }
 }
 
@@ -42,9 +43,11 @@ fn search() {
 }
 
 #[test]
-fn listing() {
+fn polarity_and_listing() {
     let log = example();
     let inverted: Vec<u8> = log.iter().map(|bit| 1 - bit).collect();
+    assert_eq!(lnav::polarity(&log, 5), Ok(Polarity::Upright));
+    assert_eq!(lnav::polarity(&inverted, 5), Ok(Polarity::Inverted));
     let header = "place\tid\tcount\tpolarity\n";
     assert_eq!(lnav::list(&log), Ok(format!("{header}5\t1\t0\tU\n")));
     assert_eq!(lnav::list(&inverted), Ok(format!("{header}5\t1\t0\tI\n")));

@@ -19,7 +19,7 @@ fn recording() {
         let place = 300 * (fed - 1);
         assert_eq!(lnav::find(&log, (place + 1).saturating_sub(300)), Ok(place));
         let record = lnav::read(&log, place).unwrap();
-        let block = lnav::block(&record, lnav::polarity(&log, place)).unwrap();
+        let block = lnav::block(&record, lnav::polarity(&log, place).unwrap()).unwrap();
         assert_eq!(block, log[place..place + 302]);
         history.feed(place, 5).unwrap();
         let issue = history.set(5).map(|set| set.subframe1.iodc_low);

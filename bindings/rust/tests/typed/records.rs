@@ -18,7 +18,7 @@ pub fn round_trip(record: Record) {
         let block = lnav::block(&record, polarity).unwrap();
         assert_eq!(buffer[..302], block);
         assert_eq!(lnav::check(&block, 0), Ok(()));
-        assert_eq!(lnav::polarity(&block, 0), polarity);
+        assert_eq!(lnav::polarity(&block, 0), Ok(polarity));
         assert_eq!(lnav::read(&block, 0), Ok(record));
     }
     let [upright, inverted] = POLARITIES.map(|polarity| lnav::block(&record, polarity).unwrap());
