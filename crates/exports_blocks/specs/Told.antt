@@ -1,5 +1,5 @@
--- Definitions. What the search, the reader and the listing answer, as plain numbers: number and detail, then the value, 0 or false where the call is
--- refused.
+-- Definitions. What the search, the polarity, the reader and the listing answer, as plain numbers: number and detail, then the value, 0 or false
+-- where the call is refused.
 use mathlib.Core.Bool.{Bool, true, false}
 use mathlib.Core.List.{List}
 use Prim.Native.Nat.{ℕ}
