@@ -1,3 +1,4 @@
 -- Laws about the definitions of this crate.
 pub mod ReadAgain
 pub mod WrittenValues
+pub mod ByNumber

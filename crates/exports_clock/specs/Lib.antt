@@ -1,2 +1,3 @@
--- The files of this folder: definitions.
+-- The files of this folder: definitions; laws about them.
 pub mod Told
+pub mod laws

@@ -5,3 +5,4 @@ pub mod History
 pub mod Sets
 pub mod Pages
 pub mod Received
+pub mod ByNumber

@@ -5,8 +5,8 @@ use mathlib.Core.List.{List}
 use Prim.Native.Nat.{ℕ}
 use Rattle.reader.specs.Reader as Reader
 use Rattle.reader.specs.laws.Reader.{read-by-number}
-use Rattle.answer.specs.Answer.{accepted, refused, ByNumber, refuseIf, whenHeld}
-use Rattle.answer.specs.laws.ByNumber.{line-by-number}
+use Rattle.answer.specs.Answer.{accepted, refused, ByNumber, refuseIf, outcome, whenHeld}
+use Rattle.answer.specs.laws.ByNumber.{line-by-number, outcome-by-number}
 use Rattle.record.specs.declared.record.Record.{Record}
 use Rattle.orbit_set.specs.Set.{setIn}
 use Rattle.orbit_set.specs.laws.Ways.{set-in-by-number}
@@ -29,9 +29,13 @@ module _ (s : List ℕ) (p n : ℕ) where
   unfolding Feed.feed refuseIf
   feed-reads h = ap (λ (t : Bool). refuseIf (not t) 13 n (Reader.read s p)) h
 
-  pub feed-by-number : ByNumber (Feed.feed s p n)
+  numbered : ByNumber (Feed.feed s p n)
   unfolding Feed.feed
-  feed-by-number = line-by-number _ 12 _ _ (read-by-number s p)
+  numbered = line-by-number _ 12 _ _ (read-by-number s p)
+
+  -- of the answer that is given without the record
+  pub feed-by-number : ByNumber (outcome (Feed.feed s p n))
+  feed-by-number = outcome-by-number (Feed.feed s p n) numbered
 
   module _ (c : Collector) where
     -- a refusal leaves the collector as it was
