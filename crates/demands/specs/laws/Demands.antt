@@ -71,6 +71,7 @@ use Rattle.day.specs.Day.{timeAt}
 use Rattle.utc.specs.Time as Time
 use Rattle.utc.specs.Time.{secondOfDay}
 use Rattle.demands.specs.Table.{byLines, logLines, blockLines, searchLines, recordLines, bufferLines, satelliteLines, timeLines, setLines}
+use Rattle.demands.specs.Message.{Carries}
 use Rattle.demands.specs.Orbit.{fedBlock, IssueAndHealth}
 use Rattle.demands.specs.Detected.{Detected, pair, word}
 use Rattle.demands.specs.laws.Table.{lines-value}
@@ -113,7 +114,6 @@ pub refusals-write : (r : Record) (buffer : List ℕ) → Writer.write r buffer 
 unfolding byLines Writer.write
 refusals-write r buffer = refl
 
--- number 17 has the lowest subframe that is not held for its detail
 module _ (c : Collector) (n : ℕ) where
   pub refusals-set : Questions.set c n ≡ byLines (satelliteLines n) (setIn (heldSubframe1 c n) (heldSubframe2 c n) (heldSubframe3 c n))
   unfolding byLines Questions.set
@@ -127,6 +127,7 @@ pub refusals-utc-page : (c : Collector) → Questions.utcPage c ≡ whenHeld (he
 unfolding Questions.utcPage Pages.utcPage heldUtc
 refusals-utc-page c = refl
 
+-- number 17's detail is the lowest subframe that is not held
 pub refusals-17 : (one : Subframe1) (two : Subframe2) (held2 : Option Subframe2) (held3 : Option Subframe3)
     → (setIn none held2 held3 ≡ refused 17 1) × (setIn (some one) none held3 ≡ refused 17 2) × (setIn (some one) (some two) none ≡ refused 17 3)
 unfolding whenHeld setIn
@@ -172,8 +173,7 @@ no-record-changed c s p n m d e = fed-refused s p n c m d e
 
 -- ---- Demand 2
 
--- 'Reading and writing are what ICD-GPS-200C's tables say, bit for bit.' The bits of the record's fields are source bits 9 to 46 and 49 to 238 of the
--- block, which leaves out preamble and fillers.
+-- 'Reading and writing are what ICD-GPS-200C's tables say, bit for bit'
 
 -- the field lists have the width and the sign that each row of the tables prints, and each field that a table has is listed by one row
 pub fields-by-tables : (k : Kind)
@@ -182,23 +182,19 @@ pub fields-by-tables : (k : Kind)
 fields-by-tables k = (rows-hold k, entries-hold k)
 
 module _ (r : Record) (s : List ℕ) (p : ℕ) where
-  abbrev SourceBits : Type 0
-  SourceBits =
-      ((j : ℕ) → j < 38 → headerBits r j ≡ getD (source (bitsAt s p)) (8 + j) 0)
-      × ((j : ℕ) → j < 190 → recordBits r j ≡ getD (source (bitsAt s p)) (48 + j) 0)
-
-  pub reading-by-tables : Reader.read s p ≡ accepted r → SourceBits
+  pub reading-by-tables : Reader.read s p ≡ accepted r → Carries (bitsAt s p) r
   reading-by-tables e =
       let b = bitsAt s p in
-      let is : r ≡ recordOf (source b) = read-accepted s p r e .1 in (
-        λ j h. ap (λ (x : Record). headerBits x j) is ∙ header-bits (source b) j h ∙ bit b (8 + j) (omega arith),
-        λ j h. ap (λ (x : Record). recordBits x j) is ∙ record-bits (source b) j h ∙ bit b (48 + j) (omega arith),
-      )
+      let is : r ≡ recordOf (source b) = read-accepted s p r e .1 in
+      record {
+        in-header = λ j h. ap (λ (x : Record). headerBits x j) is ∙ header-bits (source b) j h ∙ bit b (8 + j) (omega arith);
+        in-fields = λ j h. ap (λ (x : Record). recordBits x j) is ∙ record-bits (source b) j h ∙ bit b (48 + j) (omega arith);
+      }
     where
       bit : (b : Block) (i : ℕ) → i < 240 → getD (source b) i 0 % 2 ≡ getD (source b) i 0
       bit b i h = omega (arith, source-bit b i h)
 
-  pub writing-by-tables : (polarity : Polarity) → writable r ≡ true → Holds s p (blockOf r polarity) → SourceBits
+  pub writing-by-tables : (polarity : Polarity) → writable r ≡ true → Holds s p (blockOf r polarity) → Carries (bitsAt s p) r
   writing-by-tables polarity h holds = reading-by-tables (written-reads r polarity h s p holds)
 
   -- 'A record has one block per polarity': what reads as the record and has the polarity's start pair is that block
@@ -234,7 +230,7 @@ module _ (n : ℕ) (here : isSatellite n ≡ true) (history : List History.Feed)
       (three : IsLatest (subframe3For n) history (o .subframe3))
       → (Questions.set (reached history) n ≡ accepted o) ↔ IssueAndHealth (fedBlock (one .feed)) (fedBlock (two .feed)) (fedBlock (three .feed))
   unfolding fedBlock
-  orbit-set-by-bits one two three = (given, withheld)
+  orbit-set-by-bits one two three = (shows, gives)
     where
       at-1 : Reader.read (one .feed .log) (one .feed .place) ≡ accepted (R.Subframe1 (o .subframe1))
       at-1 = brought-1 n (one .feed) (o .subframe1) (one .brought-it)
@@ -251,13 +247,13 @@ module _ (n : ℕ) (here : isSatellite n ≡ true) (history : List History.Feed)
       issue-3 : o .subframe3 .iode ≡ field (fedBlock (three .feed)) 10 1 8
       issue-3 = iode-3 (three .feed .log) (three .feed .place) (o .subframe3) (brought-3 n (three .feed) (o .subframe3) (three .brought-it))
 
-      given : Questions.set (reached history) n ≡ accepted o → IssueAndHealth (fedBlock (one .feed)) (fedBlock (two .feed)) (fedBlock (three .feed))
-      given e =
+      shows : Questions.set (reached history) n ≡ accepted o → IssueAndHealth (fedBlock (one .feed)) (fedBlock (two .feed)) (fedBlock (three .feed))
+      shows e =
           let set = orbit-set-exactly .0 e in
           record { issue-2 = sym issue-1 ∙ set .issue-2 ∙ issue-2; issue-3 = sym issue-2 ∙ set .issue-3 ∙ issue-3; health-clear = sym health ∙ set .health-clear }
 
-      withheld : IssueAndHealth (fedBlock (one .feed)) (fedBlock (two .feed)) (fedBlock (three .feed)) → Questions.set (reached history) n ≡ accepted o
-      withheld h =
+      gives : IssueAndHealth (fedBlock (one .feed)) (fedBlock (two .feed)) (fedBlock (three .feed)) → Questions.set (reached history) n ≡ accepted o
+      gives h =
           orbit-set-exactly .1
           (record {
             held-1 = latest-is (subframe1For n) history (o .subframe1) .1 one;
