@@ -1,0 +1,2 @@
+-- What the code's list holds.
+pub mod Laid
