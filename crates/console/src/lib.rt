@@ -13,4 +13,5 @@ pub use output::print_two_digits;
 pub use output::say;
 pub use output::space;
 pub use refusals::print_checked;
+pub use refusals::print_phrase;
 pub use refusals::print_refusal;

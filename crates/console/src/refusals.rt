@@ -8,7 +8,7 @@ use answer::Checked;
 use answer::Refusal;
 
 // Prints the condition of a number: the first line is that of number 1.
-fn print_phrase(number: u8) {
+pub fn print_phrase(number: u8) {
     if number == 0 {
         return;
     }
@@ -33,6 +33,7 @@ subframe 1, 2 or 3 not held
 IODC low, IODE of 2 and of 3 not all equal
 first health bit is 1
 almanac or UTC page not held
+buffer under 32 bytes
 ",
         (number - 1) as usize,
     );

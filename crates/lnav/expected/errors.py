@@ -81,7 +81,7 @@ def commands(s):
     s.comment('too many words')
     s.fail('too many words', '''check example.log 5 5 | find example.log 5 5 | list example.log 5 |
         read example.log 5 5 | words example.log 5 5 | invert written 5 | flip written 5 5 | feed example.log 5 5 5 |
-        feed-all example.log 5 5 | set 5 5 | almanac 5 5 | utc 5 | clock 5 5 | accuracy 5 5 | forget 5 |
+        feed-all example.log 5 5 | set 5 5 | almanac 5 5 | utc 5 | clock 5 5 | accuracy 5 5 | rank 5 | forget 5 |
         run errors-itself.txt 5 | help 5 | write utc inverted dn=3 | clock subframe1 inverted |
         accuracy subframe1 ura=3 inverted | time 2000 0 utc inverted''')
     s.fail('too many words', 'word %s 5' % ZEROS)
@@ -207,6 +207,7 @@ CALLS = [
     lambda s: s.accuracy(ura=15, expect='no prediction'),
     lambda s: s.time(2000, 0, 'utc', '23:59:42', **UTC),
     lambda s: s.time(2000, 0, expect='refused 20 0'),
+    lambda s: s.rank('satellite ura metres count issue'),
     lambda s: s.do('forget'),
     lambda s: s.do('help', *words.HELP.splitlines()),
     lambda s: run_itself(s, 8),

@@ -1,4 +1,4 @@
-# Makes the commands and the expected output of the program lnav, from document 01 and the recordings of data/:
+# Makes the commands and the expected output of the program lnav, from documents 01 and 02 and the recordings of data/:
 #     data/SUBJECT.txt    the commands of each subject
 #     data/*.log          the logs that are made
 #     stdin, stdout       the subjects in their order, and all that they are to print
@@ -20,7 +20,7 @@ import errors
 import questions
 import subject
 
-SUBJECTS = 'first-steps words blocks logs records round_trip season timing course'.split()
+SUBJECTS = 'first-steps words blocks logs records round_trip season timing ranking course'.split()
 HERE = os.path.dirname(os.path.abspath(__file__))
 CRATE = os.path.join(HERE, os.pardir)
 

@@ -1,5 +1,6 @@
-# Document 01 in Python: what is right, for the questions about records. The collector, the clock terms, the accuracy
-# and the time of day; doubles and decimals, which are exact fractions here. What document 01 refuses raises Refused.
+# Document 01 in Python: what is right, for the questions about records. The collector, with the ranking of document
+# 02's request 1, the clock terms, the accuracy and the time of day; doubles and decimals, which are exact fractions
+# here. What document 01 refuses raises Refused.
 import struct
 from fractions import Fraction
 import paper
@@ -54,6 +55,27 @@ class Collector:
 
     def utc(self):
         return self.page('utc')
+
+    # Whether a subframe 1, 2 or 3 of a satellite is held.
+    def holds(self, satellite):
+        return any(self.latest('subframe%d' % k, satellite) for k in (1, 2, 3))
+
+    # The satellites whose set can be given, each with its subframe 1: smallest URA index first, equal indices by
+    # smaller satellite number. Then, by number, the refusals of the others of which a subframe 1, 2 or 3 is held.
+    def rank(self):
+        given, refused = {}, {}
+        for satellite in range(1, 33):
+            try:
+                given[satellite], _, _ = self.set(satellite)
+            except Refused as refusal:
+                if self.holds(satellite):
+                    refused[satellite] = refusal
+        order = sorted(given, key=lambda satellite: (given[satellite].values['ura'], satellite))
+        return [(satellite, given[satellite]) for satellite in order], list(refused.items())
+
+# Why a set is refused, in words.
+def reason(refusal):
+    return 'subframe %d not held' % refusal.detail if refusal.number == 17 else paper.PHRASES[refusal.number]
 
 # ---- decimals and doubles
 

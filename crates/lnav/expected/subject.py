@@ -72,6 +72,12 @@ def accuracy_lines(record):
         return ['no prediction']
     return ['metres %s m %s' % (questions.decimal(metres), questions.pattern(metres))]
 
+# A satellite of the ranking, by its subframe 1.
+def rank_line(satellite, record):
+    values = record.values
+    metres = [*questions.METRES, 'no prediction'][values['ura']]
+    return '%d\t%d\t%s\t%d\t%d' % (satellite, values['ura'], metres, values['count'], values['iodc_low'])
+
 class Subject:
     def __init__(self, name):
         self.name, self.commands, self.output = name, [], []
@@ -198,6 +204,12 @@ class Subject:
         def answer():
             return [record_line(self.collector.utc())]
         return self.answer('utc', lines_of(answer), expect)
+
+    def rank(self, expect=None):
+        ranked, refused = self.collector.rank()
+        lines = [rank_line(*one) for one in ranked]
+        lines += ['%d\t%s' % (satellite, questions.reason(refusal)) for satellite, refusal in refused]
+        return self.answer('rank', ['satellite\tura\tmetres\tcount\tissue'] + lines, expect)
 
     # The written block stays.
     def forget(self):

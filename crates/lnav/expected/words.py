@@ -41,6 +41,7 @@ utc                             the UTC page
 clock N                         the clock terms of satellite N
 accuracy N                      the user range accuracy of satellite N
 time WEEK SECOND                the UTC time of day, by the UTC page
+rank                            satellites with a set, smallest URA index first
 forget                          empties the collector
 run FILE                        does the commands of a file
 help                            prints this

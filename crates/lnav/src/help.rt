@@ -37,16 +37,18 @@ pub(crate) const ACCURACY: usize = 15;
 
 pub(crate) const TIME: usize = 16;
 
-pub(crate) const FORGET: usize = 17;
+pub(crate) const RANK: usize = 17;
 
-pub(crate) const RUN: usize = 18;
+pub(crate) const FORGET: usize = 18;
 
-pub(crate) const HELP: usize = 19;
+pub(crate) const RUN: usize = 19;
+
+pub(crate) const HELP: usize = 20;
 
 // The number of the commands, for a line that is none.
-pub(crate) const NOTHING: usize = 20;
+pub(crate) const NOTHING: usize = 21;
 
-const TEXT: [u8; 1511] = *b"check LOG PLACE                 the block check at a place
+const TEXT: [u8; 1591] = *b"check LOG PLACE                 the block check at a place
 find LOG PLACE                  the first accepted block at or after a place
 list LOG                        place, number, count and polarity of each block
 read LOG PLACE                  every field of the block at a place
@@ -63,6 +65,7 @@ utc                             the UTC page
 clock N                         the clock terms of satellite N
 accuracy N                      the user range accuracy of satellite N
 time WEEK SECOND                the UTC time of day, by the UTC page
+rank                            satellites with a set, smallest URA index first
 forget                          empties the collector
 run FILE                        does the commands of a file
 help                            prints this
@@ -72,7 +75,7 @@ For N of clock and accuracy also subframe1 VALUE.., after SECOND utc VALUE..
 ";
 
 // The help text. The table stands here alone, because each function that names it is checked with all its bytes.
-fn text() -> [u8; 1511] {
+fn text() -> [u8; 1591] {
     TEXT
 }
 

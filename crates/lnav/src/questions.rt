@@ -4,6 +4,7 @@ use crate::help::ACCURACY;
 use crate::help::ALMANAC;
 use crate::help::CLOCK;
 use crate::help::HELP;
+use crate::help::RANK;
 use crate::help::SET;
 use crate::help::TIME;
 use crate::help::UTC;
@@ -83,6 +84,7 @@ pub(crate) fn answer(c: Collector, request: Request, line: &[u8]) {
     match command {
         WORD => word(line),
         SET..=TIME => ask(c, request, line),
+        RANK => ranking_text::print_ranking(c),
         HELP => print_help(),
         _ => {}
     }

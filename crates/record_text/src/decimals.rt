@@ -127,3 +127,24 @@ pub fn print_double(x: f64, unit: &[u8]) {
     space();
     io::print_hex(STDOUT_FILENO, bits, 16);
 }
+
+// Prints a double from 1 to 2^53 rounded to the tenth, a half upwards, without a tenth that is 0.
+pub fn print_tenths(x: f64) {
+    let bits = pattern(x);
+    let exponent = bits / 4503599627370496;
+    if exponent < 1023 || 1075 < exponent {
+        print_byte(b'?');
+        return;
+    }
+    let unit = 1u64 << (1075 - exponent);
+    if unit == 0 {
+        return;
+    }
+    let twentieths = (4503599627370496 + bits % 4503599627370496) * 20 / unit;
+    let tenths = std::num::wrapping_add_u64(twentieths, 1) / 2;
+    print_number(tenths / 10);
+    if tenths % 10 != 0 {
+        print_byte(b'.');
+        print_number(tenths % 10);
+    }
+}

@@ -4,6 +4,7 @@ mod print;
 mod table;
 
 pub use decimals::print_double;
+pub use decimals::print_tenths;
 pub use print::print_fields;
 pub use print::print_record;
 pub use table::COUNT;
