@@ -12,10 +12,23 @@ use pages::GivenAlmanac;
 use pages::GivenUtc;
 use satellite_number::is_satellite;
 ghost use mathlib.Core.Path.{_≡_};
+ghost use mathlib.Core.Bool.{true};
+ghost use Rattle.satellite_number.specs.Numbers.{isSatellite};
 ghost use Rattle.orbit_set.specs.Held.{subframe1In, subframe2In, subframe3In};
 ghost use Rattle.orbit_set.specs.Set.{givenSetAnswer};
 ghost use Rattle.pages.specs.Questions.{givenAlmanacAnswer, givenUtcAnswer};
+ghost use Rattle.collector.specs.Held.{satelliteOf};
 ghost use Rattle.collector.specs.Questions as Questions;
+
+// The subframes that are held of a satellite.
+fn subframes_of(c: Collector, satellite: usize) -> HeldSubframes
+    requires { ⌜ isSatellite satellite ≡ true ⌝ }
+    ensures { λ r. ⌜ r ≡ satelliteOf c satellite .subframes ⌝ }
+{
+    let i = satellite - 1;
+    let held = c.satellites[i];
+    held.subframes
+}
 
 // Whether one of three subframes is held.
 fn any_held(held: HeldSubframes) -> bool
@@ -44,10 +57,7 @@ impl Collector {
         if !is_satellite(satellite) {
             return false;
         }
-        let index = satellite - 1;
-        let held = self.satellites[index];
-        let subframes = held.subframes;
-        any_held(subframes)
+        any_held(subframes_of(self, satellite))
     }
 
     // The set of a satellite.
@@ -57,10 +67,7 @@ impl Collector {
         if !is_satellite(satellite) {
             return GivenSet::Refused(refusal_by(13, satellite));
         }
-        let i = satellite - 1;
-        let held = self.satellites[i];
-        let subframes = held.subframes;
-        set_in(subframes)
+        set_in(subframes_of(self, satellite))
     }
 
     // The almanac page for an SV ID.

@@ -1,4 +1,4 @@
--- Definitions. Document 01's table, 'Numbers by the place of the check', place by place and line by line in its order.
+-- Definitions. Document 01's table, 'Numbers by the place of the check', place by place and line by line in its order; then document 02's numbers.
 use mathlib.Core.Path.{_≡_}
 use mathlib.Core.Bool.{Bool, true, false, not, _||_}
 use mathlib.Core.List.{List, [], _∷_, _++_}
@@ -98,3 +98,7 @@ timeLines page week second =
 -- set: the three held records; number 17 stands before it, for the lowest that is not held
 abbrev pub setLines : OrbitSet → List Line
 setLines o = line 18 (not (oneIssue o)) 0 ∷ line 19 (eqb (firstHealthBit (o .subframe1)) 1) (o .subframe1 .health) ∷ []
+
+-- ranking (document 02, request 1): the buffer
+abbrev pub rankingLines : List ℕ → List Line
+rankingLines buffer = line 21 (ltb (length buffer) 32) 0 ∷ []

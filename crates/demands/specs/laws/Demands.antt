@@ -65,12 +65,14 @@ use Rattle.histories.specs.History as History
 use Rattle.histories.specs.History.{reached, subframe1For, subframe2For, subframe3For, IsLatest, IsSet}
 use Rattle.histories.specs.laws.History.{latest-is}
 use Rattle.histories.specs.laws.Sets.{set-given}
+use Rattle.ranking.specs.Ranking as Ranking
+use Rattle.ranking.specs.laws.Ways as Ranked
 use Rattle.clock.specs.Terms as Terms
 use Rattle.accuracy.specs.Accuracy as Accuracy
 use Rattle.day.specs.Day.{timeAt}
 use Rattle.utc.specs.Time as Time
 use Rattle.utc.specs.Time.{secondOfDay}
-use Rattle.demands.specs.Table.{byLines, logLines, blockLines, searchLines, recordLines, bufferLines, satelliteLines, timeLines, setLines}
+use Rattle.demands.specs.Table.{byLines, logLines, blockLines, searchLines, recordLines, bufferLines, satelliteLines, timeLines, setLines, rankingLines}
 use Rattle.demands.specs.Message.{Carries}
 use Rattle.demands.specs.Orbit.{fedBlock, IssueAndHealth}
 use Rattle.demands.specs.Detected.{Detected, pair, word}
@@ -150,13 +152,21 @@ pub refusals-time : (page : UtcPage) (week second : ℕ)
 unfolding byLines Time.timeOfDay
 refusals-time page week second = refl
 
--- 'A refusal writes no lent byte': the writer's buffer, the listing's buffer, and the values of an exported call are as they were.
+-- document 02's number 21
+pub refusals-rank : (c : Collector) (buffer : List ℕ) → Ranking.rank c buffer ≡ byLines (rankingLines buffer) (accepted (length (Ranking.ranking c)))
+unfolding byLines Ranking.rank
+refusals-rank c buffer = refl
+
+-- 'A refusal writes no lent byte': the buffers of writer, listing and ranking, and the values of an exported call are as they were.
 
 pub no-byte-written : (r : Record) (polarity : Polarity) (buffer : List ℕ) (n d : ℕ) → Writer.write r buffer ≡ refused n d → Writer.bufferAfter r polarity buffer ≡ buffer
 no-byte-written r polarity buffer n d e = after-refusal r buffer polarity n d e
 
 pub no-byte-listed : (s buffer : List ℕ) (n d : ℕ) → Listing.list s ≡ refused n d → Listing.bufferAfter s buffer ≡ buffer
 no-byte-listed s buffer n d e = Listed.after-refusal s buffer n d e
+
+pub no-byte-ranked : (c : Collector) (buffer : List ℕ) (n d : ℕ) → Ranking.rank c buffer ≡ refused n d → Ranking.bufferAfter c buffer ≡ buffer
+no-byte-ranked c buffer n d e = Ranked.after-refusal c buffer n d e
 
 pub no-byte-of-values : {A B : Type 0} (lent : B) (values : A → B) (answer : Answer A) (n d : ℕ) → answer ≡ refused n d → fromValue lent values answer ≡ lent
 unfolding fromValue

@@ -5,7 +5,7 @@ use mathlib.Core.Bool.{true}
 use mathlib.Core.List.{List, _++_}
 use mathlib.Core.Logic.{_↔_}
 use Prim.Native.Nat.{ℕ, _+_, _%_, _≤_}
-use lib.ListN.{length, drop}
+use lib.ListN.{length, take, drop}
 use Rattle.finite.specs.Tabulate.{tabulate}
 use Rattle.bits.specs.Bits.{Bits, bitsAt}
 use Rattle.answer.specs.Answer.{Answer, accepted, refused, number, detail, outcome, refusalBy, checkedAnswer}
@@ -45,6 +45,12 @@ use Rattle.collector.specs.Questions as Questions
 use Rattle.collector.specs.declared.held.Collector.{Collector}
 use Rattle.histories.specs.History as History
 use Rattle.histories.specs.History.{reached, IsSet}
+use Rattle.ranking.specs.Ranking as Ranking
+use Rattle.ranking.specs.Ranking.{rankedAnswer, timesIn}
+use Rattle.ranking.specs.laws.Ways.{after-list}
+use Rattle.ranking.specs.laws.Histories.{ranked-exactly}
+use Rattle.ranking.specs.declared.ranking.Ranked.{Ranked}
+use Rattle.ranking.specs.declared.ranking.Ranked.the-variants as Ranked
 use Rattle.demands.specs.Detected.{Detected, pair, word}
 use Rattle.demands.specs.laws.Demands as Demands
 
@@ -63,6 +69,12 @@ pub list-refused : (s buffer after : List ℕ) (r : Listed) → listedAnswer r �
     → (x : Refusal) → r ≡ Listed.Refused x → after ≡ buffer
 unfolding listedAnswer
 list-refused s buffer after r answer left x e = left ∙ Demands.no-byte-listed s buffer (x .number) (x .detail) (sym answer ∙ ap listedAnswer e)
+
+-- `rank`: the same
+pub rank-refused : (c : Collector) (buffer after : List ℕ) (r : Ranked) → rankedAnswer r ≡ Ranking.rank c buffer → after ≡ Ranking.bufferAfter c buffer
+    → (x : Refusal) → r ≡ Ranked.Refused x → after ≡ buffer
+unfolding rankedAnswer
+rank-refused c buffer after r answer left x e = left ∙ Demands.no-byte-ranked c buffer (x .number) (x .detail) (sym answer ∙ ap rankedAnswer e)
 
 -- `feed`: a refusal gives the collector back as it was
 pub feed-refused : (c after : Collector) (s : List ℕ) (p n : ℕ) (w : Checked)
@@ -115,6 +127,18 @@ set-gives n here history o g answer = (
   λ e. Demands.orbit-set-exactly n here history o .0 (sym answer ∙ ap givenSetAnswer e),
   λ h. givenSetAnswer-injective g (GivenSet.Given o) (answer ∙ Demands.orbit-set-exactly n here history o .1 h),
 )
+
+-- `rank`, after any history of feeds: as many bytes of the buffer as it answers hold each satellite whose set is given, once
+pub rank-gives : (n : ℕ) → isSatellite n ≡ true → (history : List History.Feed) (buffer after : List ℕ) (r : Ranked) (k : ℕ)
+    → rankedAnswer r ≡ Ranking.rank (reached history) buffer → after ≡ Ranking.bufferAfter (reached history) buffer
+    → r ≡ Ranked.Length k → (timesIn n (take k after) ≡ 1) ↔ ((o : OrbitSet) × IsSet n history o)
+unfolding rankedAnswer
+rank-gives n here history buffer after r k answer left e =
+    let bytes : take k after ≡ Ranking.ranking (reached history) = ap (take k) left ∙ after-list (reached history) buffer k (sym answer ∙ ap rankedAnswer e) in
+    let exactly = ranked-exactly history n here in (
+      λ once. exactly .0 (sym (ap (timesIn n) bytes) ∙ once),
+      λ h. ap (timesIn n) bytes ∙ exactly .1 h,
+    )
 
 -- ---- Demand 3
 
