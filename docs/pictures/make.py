@@ -163,6 +163,10 @@ def path():
     yield arrow((630, 288), (630, 392))
     yield from crate(640, 340, 'pages', '20', 'start')
 
+    yield from node(25, 392, 130, 50, 'satellites', 'most accurate first', fill=GREEN)
+    yield arrow((270, 288), (270, 345), (90, 345), (90, 392))
+    yield from crate(180, 338, 'ranking', '21', apart=24)
+
     yield from node(165, 530, 110, 50, 'clock terms', 'four doubles', fill=GREEN)
     yield from node(355, 530, 130, 50, 'accuracy', 'in metres, or none', fill=GREEN)
     yield from node(560, 530, 140, 50, 'time of day', 'of week and second', fill=GREEN)

@@ -1,4 +1,4 @@
-// Refusals as lines: number, detail, and the condition in document 01's words.
+// Refusals as lines: number, detail, and the condition in the words of documents 01 and 02.
 use crate::output::end_line;
 use crate::output::print;
 use crate::output::print_number;

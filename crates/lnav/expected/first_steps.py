@@ -1,9 +1,7 @@
 # The first steps of a user, which README.md quotes: a recording is listed, fed and read, and a block is written and
 # spoilt. Stated by hand: every block of the recording, the latest set, and the word with the flipped bit. The numbers
-# of recorded fields are gpsdecode's. The script stops where README.md quotes what is not said (quotes.py).
-import quotes
+# of recorded fields are gpsdecode's.
 import records
-import words
 
 LOG = records.SV05.name
 # The latest set of satellite 5.
@@ -38,4 +36,3 @@ def written(s):
 def build(s):
     recorded(s)
     written(s)
-    quotes.check_readme(s, words.HELP.splitlines())

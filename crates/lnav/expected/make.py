@@ -18,7 +18,9 @@ import sys
 sys.dont_write_bytecode = True
 import errors
 import questions
+import quotes
 import subject
+import words
 
 SUBJECTS = 'first-steps words blocks logs records round_trip season timing ranking course'.split()
 HERE = os.path.dirname(os.path.abspath(__file__))
@@ -36,6 +38,12 @@ def built(name, module):
     except FileNotFoundError as missing:
         sys.exit('data/%s is missing' % os.path.basename(missing.filename))
     return made
+
+def check_readme(subjects):
+    try:
+        quotes.check_readme(subjects, words.HELP.splitlines())
+    except subject.Differs as differs:
+        sys.exit(str(differs))
 
 # The content of each file that is made, by its name in the crate's folder.
 def files_of(subjects):
@@ -77,6 +85,7 @@ def main():
     asked = parser.parse_args()
     questions.check_board()
     subjects = [built(name, module) for name, module in modules().items()]
+    check_readme(subjects)
     files = {**files_of(subjects), **errors.files_of()}
     if asked.check:
         check(files)

@@ -98,6 +98,6 @@ def check_course(lessons, wrong):
         if first not in quoted:
             raise Differs('%s: no quote of %s' % (COURSE, first))
 
-def check_readme(first_steps, help_lines):
-    said = {**said_by([first_steps]), '$ lnav help': help_lines}
+def check_readme(subjects, help_lines):
+    said = {**said_by(subjects), '$ lnav help': help_lines}
     check(README, fenced_in(README, text_of_file(README)), said)
