@@ -58,6 +58,15 @@ module _ (c : Collector) (n : ℕ) where
   unfolding Questions.set refuseIf
   set-held h = rw h
 
+  -- whether something is held, likewise
+  pub holds-none : isSatellite n ≡ false → Questions.holdsAny c n ≡ false
+  unfolding Questions.holdsAny
+  holds-none h = rw h
+
+  pub holds-held : isSatellite n ≡ true → Questions.holdsAny c n ≡ Questions.anyHeld (heldSubframe1 c n) (heldSubframe2 c n) (heldSubframe3 c n)
+  unfolding Questions.holdsAny
+  holds-held h = rw h
+
   pub set-by-number : ByNumber (Questions.set c n)
   unfolding Questions.set
   set-by-number = line-by-number _ 12 _ _ (set-in-by-number (heldSubframe1 c n) (heldSubframe2 c n) (heldSubframe3 c n))
