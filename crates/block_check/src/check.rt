@@ -7,7 +7,7 @@ ghost use Rattle.block_check.specs.Check as Check;
 ghost use Rattle.block_check.specs.Check.{ends_alike, first_above, first_broken};
 
 use answer::{Checked, refusal_by};
-use block::{count_at, has_room, subframe_number_at, syndrome_at};
+use block::{count_at, has_room, subframe_number_at};
 
 // Refused by this number, with this detail.
 fn refused(number: u8, detail: usize) -> Checked
@@ -38,7 +38,7 @@ fn first_broken(log: &[u8], p: usize) -> usize
 {
     let mut k: usize = 1;
     while k <= 10 {
-        if syndrome_at(log, p, k) != 0 {
+        if !parity::word_passes(parity::packed_window(log, p + 30 * (k - 1))) {
             return k;
         }
         k += 1;

@@ -1,24 +1,13 @@
 // Block check, search and reader.
-use crate::windows::print_syndrome;
-use answer::Checked;
 use block::Polarity;
-use console::{end_line, print, print_number, print_refusal, print_refusal_words};
+use console::{end_line, print, print_checked, print_number, print_refusal};
 use reader::Reading;
 use record_text::print_fields;
 use search::Found;
 
-// The block check at a place. Behind a refusal by 5 stands the syndrome of the word that it names.
+// The block check at a place.
 pub fn check(log: &[u8], p: usize) {
-    match block_check::check_block(log, p) {
-        Checked::Accepted => print(b"accepted"),
-        Checked::Refused(r) => {
-            print_refusal_words(r);
-            if r.number == 5 {
-                print_syndrome(block::syndrome_at(log, p, r.detail));
-            }
-        }
-    }
-    end_line();
+    print_checked(block_check::check_block(log, p));
 }
 
 fn print_polarity(polarity: Polarity) {

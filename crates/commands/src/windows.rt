@@ -1,4 +1,4 @@
-// The words of a block: whether each passes the parity table, its source bits, and which equations failed.
+// The words of a block: whether each passes the parity table, and its source bits.
 use answer::Checked;
 use console::{end_line, print, print_bits, print_number, print_refusal, space};
 
@@ -9,40 +9,14 @@ fn print_source(source: u32) {
     print_bits(&bits);
 }
 
-// The equations that failed, by their bits 25 to 30.
-fn print_equations(failures: [u8; 6]) {
-    print(b" equations");
-    let mut k: usize = 0;
-    while k < 6 {
-        if failures[k] == 1 {
-            space();
-            print_number((25 + k) as u64);
-        }
-        k += 1;
-    }
-}
-
-// A syndrome in its six binary digits and, where it is not 0, the equations that failed.
-pub fn print_syndrome(syndrome: u32) {
-    let mut failures = [0u8; 6];
-    text::put_bits(&mut failures, 0, 6, syndrome);
-    print(b" syndrome ");
-    print_bits(&failures);
-    if syndrome != 0 {
-        print_equations(failures);
-    }
-}
-
-// Whether a window's word passes, its source bits, and its syndrome.
+// Whether a window's word passes, and its source bits.
 fn print_window(window: u32) {
-    let syndrome = parity::syndrome_of(window);
-    if syndrome == 0 {
+    if parity::word_passes(window) {
         print(b"passes ");
     } else {
         print(b"fails ");
     }
     print_source(parity::source_bits(window));
-    print_syndrome(syndrome);
     end_line();
 }
 

@@ -34,18 +34,13 @@ buffer under 32 bytes
     );
 }
 
-// A refusal without the end of its line.
-pub fn print_refusal_words(r: Refusal) {
+pub fn print_refusal(r: Refusal) {
     print(b"refused ");
     print_number(r.number as u64);
     space();
     print_number(r.detail as u64);
     space();
     print_phrase(r.number);
-}
-
-pub fn print_refusal(r: Refusal) {
-    print_refusal_words(r);
     end_line();
 }
 

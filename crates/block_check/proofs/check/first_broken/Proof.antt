@@ -1,16 +1,16 @@
 -- `first_broken` meets its contract. The invariant: no word before word k breaks the table.
 use mathlib.Core.Path.{◌≡◌, sym, ap, ◌∙◌}
-use mathlib.Core.Bool.{true, false, not}
+use mathlib.Core.Bool.{false, not}
+use mathlib.Core.List.{List}
 use Prim.Native.Nat.{ℕ, ◌-◌, ◌<◌, ◌≤◌}
 use native.Mathlib.Omega.{arith}
 use borrow.Author.Count.{below_more}
 use borrow.Author.Rules.{rules}
-use Rattle.bits.specs.Bits.{bits_at}
+use Rattle.bits.specs.Bits.{bits_at, unpack}
 use Rattle.finite.specs.laws.First.{first-here, first_none}
-use Rattle.parity.specs.Word.{Window, syndrome, passes}
-use Rattle.parity.specs.laws.Equations.{passes-syndrome, fails_syndrome}
+use Rattle.parity.specs.Word.{passes}
 use Rattle.block.specs.Block.{window}
-use Rattle.block.specs.laws.Syndrome.{syndrome_in_block}
+use Rattle.block.specs.laws.Packed.{packed_at, passes_at}
 use Rattle.block_check.specs.Check.{first_broken}
 use Rattle.block_check.proofs.check.first_broken.Statement.{statement}
 use Rattle.block_check.proofs.check.first_broken.Tie as tie
@@ -24,31 +24,32 @@ decreases-loop log p k₀ k = 11 - k
 loop-holds : tie.Need-loop-init invariant-loop decreases-loop
 loop-holds c = (omega arith, (omega arith, λ j h l. absurd (omega arith)))
 
--- the number that the word check gave, of the block's own word
-module _ (c : tie.After-syndrome-at invariant-loop decreases-loop) where
-  abbrev at : tie.At-loop invariant-loop decreases-loop
-  at = c.before.before
+-- what the word check answered, of the block's own word
+module _ (c : tie.After-word-passes invariant-loop decreases-loop) where
+  abbrev log : List ℕ
+  log = c.before.before.before.before.before.args.log.now
 
-  abbrev word : Window
-  word = window (bits_at at.before.before.args.log.now at.before.before.args.p) at.loop.k
+  abbrev place : ℕ
+  place = c.before.before.before.before.before.args.p
 
-  number : c.syndrome-at.result ≡ syndrome word
-  number =
-      c.syndrome-at.ensures
-      ∙ syndrome_in_block at.before.before.args.log.now at.before.before.args.p at.loop.k (omega arith) (omega arith) (omega arith)
+  abbrev word : ℕ
+  word = c.before.before.before.loop.k
+
+  answered : not (passes (window (bits_at log place) word)) ≡ not c.word-passes.result
+  answered =
+      let packed : c.before.packed-window.result ≡ packed_at log place word = c.before.packed-window.ensures in
+      sym (ap not (c.word-passes.ensures ∙ ap (λ (w : ℕ). passes (unpack 32 w)) packed ∙ passes_at log place word))
 
 returns : tie.Need-returns invariant-loop decreases-loop
 unfolding first_broken
 returns c =
-    let at = c.before.before.before in
-    let fails : passes (word c.before) ≡ false = (fails_syndrome _).1 (λ e. c.if1.true (number c.before ∙ e)) in
-    sym (first-here _ 1 10 at.loop.k (omega arith) (omega arith) (λ j l h. at.loop.invariant.1.1 j h l) (ap not fails))
+    let at = c.before.before.before.before in
+    sym (first-here _ 1 10 at.loop.k (omega arith) (omega arith) (λ j l h. at.loop.invariant.1.1 j h l) (answered c.before ∙ c.if1.true))
 
 loop-again : tie.Need-loop-preserved invariant-loop decreases-loop
 loop-again c =
-    let at = c.before.before.before in
-    let passed : passes (word c.before) ≡ true = (passes-syndrome _).1 (sym (number c.before) ∙ c.if1.false) in
-    (omega arith, (omega arith, below_more _ at.loop.k at.loop.invariant.1.1 (λ l. ap not passed)))
+    let at = c.before.before.before.before in
+    (omega arith, (omega arith, below_more _ at.loop.k at.loop.invariant.1.1 (λ l. answered c.before ∙ c.if1.false)))
 
 returns-2 : tie.Need-returns-2 invariant-loop decreases-loop
 unfolding first_broken
@@ -59,4 +60,17 @@ returns-2 c =
 pub first_broken_spec : {M : Type 1} → statement M
 first_broken_spec =
     tie.close
-    (tie.spec invariant-loop decreases-loop loop-holds (λ c κs. search rules) returns (λ c. omega arith) (λ c. omega arith) loop-again returns-2)
+    (tie.spec
+    invariant-loop
+    decreases-loop
+    loop-holds
+    (λ c. omega arith)
+    (λ c. omega arith)
+    (λ c. omega arith)
+    (λ c κs. search rules)
+    (λ c κs. search rules)
+    returns
+    (λ c. omega arith)
+    (λ c. omega arith)
+    loop-again
+    returns-2)

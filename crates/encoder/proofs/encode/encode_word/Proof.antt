@@ -14,7 +14,7 @@ use Rattle.encoder.proofs.encode.encode_word.Tie as tie
 whole : (c : tie.After-syndrome-of) → c.before.data-window.result + c.syndrome-of.result ≡ pack 32 (encode c.before.before.args.p c.before.before.args.q (source_of c.before.before.args.source))
 whole c =
     let a = c.before.before.args in
-    ap (λ (n : ℕ). c.before.data-window.result + n) c.syndrome-of.ensures.0
+    ap (λ (n : ℕ). c.before.data-window.result + n) c.syndrome-of.ensures
     ∙ ap (λ (n : ℕ). n + syndrome (unpack 32 n)) c.before.data-window.ensures
     ∙ whole_word a.p a.q (source_of a.source)
 
