@@ -41,13 +41,13 @@ module _ (c : tie.Start) where
   fits : Fits w32 (modulo t 86400)
   fits = record { fits = lt_trans (modulo_lt t 86400 (lit< tt)) (lit< tt) }
 
-rem-rest : tie.Need-nonzero-rem-rest
+rem-rest : tie.Need-nonzero_rem-rest
 rem-rest c = rw (to_z-of_z w64 c.args.t c.ranges.t) (lit< tt, record { sfits = lt_of_le_of_lt (quotient_mag c.args.t) c.ranges.t.sfits })
 
 pub modulo_day_spec : {M : Type 1} → statement M
 modulo_day_spec =
     tie.close
     (tie.spec rem-rest (λ c. fits_of w64 (sum (rest_is c.before) (literal 86400)) (lit< tt))
-    (λ c. cast-of w32 (modulo (t c.before) 86400) (more_is c.before c.if1.true) (fits c.before))
-    (λ c. cast-of w32 (modulo (t c.before) 86400) (is_rest c.before c.if1.false) (fits c.before))
-    (λ c. ap nat_abs (more_is c.before c.if1.true)) (λ c. ap nat_abs (is_rest c.before c.if1.false)))
+    (λ c. cast-of w32 (modulo (t c.before) 86400) (more_is c.before c.if-rest-lt0.true) (fits c.before))
+    (λ c. cast-of w32 (modulo (t c.before) 86400) (is_rest c.before c.if-rest-lt0.false) (fits c.before))
+    (λ c. ap nat_abs (more_is c.before c.if-rest-lt0.true)) (λ c. ap nat_abs (is_rest c.before c.if-rest-lt0.false)))

@@ -64,13 +64,13 @@ module _ (z : ℤ) (f : SFits w64 z) where
 pub absolute_spec : {M : Type 1} → statement M
 absolute_spec =
     tie.close
-    (tie.spec (λ c. fits_of w64 (up (z' c.before) (f' c.before) c.if1.true) (f' c.before).sfits)
-    (λ c. fits_of w64 (turn (z' c.before) (f' c.before) c.if1.true) (f' c.before).sfits)
+    (tie.spec (λ c. fits_of w64 (up (z' c.before) (f' c.before) c.if-z-lt0.true) (f' c.before).sfits)
+    (λ c. fits_of w64 (turn (z' c.before) (f' c.before) c.if-z-lt0.true) (f' c.before).sfits)
     (λ c. cast-of w64 (mag (z' c.before)) (turned_to c) (smaller c))
     (λ c. rw (turned_to c) (one_fits c))
-    (λ c. ap (λ (n : ℕ). n + 1) (ap nat_abs (turned_to c)) ∙ one_more (z' c.before) (test (z' c.before) (f' c.before) c.if1.true))
-    (λ c. cast-of w64 (nat_abs (z' c.before)) (kept (z' c.before) (f' c.before) c.if1.false) (size_fits (z' c.before) (f' c.before)))
-    (λ c. ap nat_abs (kept (z' c.before) (f' c.before) c.if1.false)))
+    (λ c. ap (λ (n : ℕ). n + 1) (ap nat_abs (turned_to c)) ∙ one_more (z' c.before) (test (z' c.before) (f' c.before) c.if-z-lt0.true))
+    (λ c. cast-of w64 (nat_abs (z' c.before)) (kept (z' c.before) (f' c.before) c.if-z-lt0.false) (size_fits (z' c.before) (f' c.before)))
+    (λ c. ap nat_abs (kept (z' c.before) (f' c.before) c.if-z-lt0.false)))
   where
     z' : tie.Start → ℤ
     z' c = c.args.z
@@ -78,11 +78,11 @@ absolute_spec =
     f' : (c : tie.Start) → SFits w64 (z' c)
     f' c = c.ranges.z
 
-    turned_to : (c : tie.Then1) → to_z w64 (of_z w64 (pos 0 -ℤ to_z w64 (of_z w64 (to_z w64 (of_z w64 (z' c.before)) +ℤ pos 1)))) ≡ pos (mag (z' c.before))
-    turned_to c = result (z' c.before) (f' c.before) c.if1.true
+    turned_to : (c : tie.Then-z-lt0) → to_z w64 (of_z w64 (pos 0 -ℤ to_z w64 (of_z w64 (to_z w64 (of_z w64 (z' c.before)) +ℤ pos 1)))) ≡ pos (mag (z' c.before))
+    turned_to c = result (z' c.before) (f' c.before) c.if-z-lt0.true
 
-    one_fits : (c : tie.Then1) → Fits w64 (mag (z' c.before) + 1)
-    one_fits c = rw (one_more (z' c.before) (test (z' c.before) (f' c.before) c.if1.true)) (size_fits (z' c.before) (f' c.before))
+    one_fits : (c : tie.Then-z-lt0) → Fits w64 (mag (z' c.before) + 1)
+    one_fits c = rw (one_more (z' c.before) (test (z' c.before) (f' c.before) c.if-z-lt0.true)) (size_fits (z' c.before) (f' c.before))
 
-    smaller : (c : tie.Then1) → Fits w64 (mag (z' c.before))
-    smaller c = record { fits = omega (arith, (one_fits c).ranges) }
+    smaller : (c : tie.Then-z-lt0) → Fits w64 (mag (z' c.before))
+    smaller c = record { fits = omega (arith, (one_fits c).fits) }

@@ -7,11 +7,11 @@ use Rattle.told.specs.Told.{told}
 use Rattle.told.proofs.answer_of.Statement.{statement}
 use Rattle.told.proofs.answer_of.Tie as tie
 
-returns : tie.Need-returns
+returns : tie.Need-returns-in-Accepted
 unfolding told number detail checked_answer
 returns c = sym (ap (λ (x : Checked). told (checked_answer x)) c.enum_told.given.1)
 
-returns-2 : tie.Need-returns-2
+returns-2 : tie.Need-returns-in-Refused
 unfolding told number detail checked_answer
 returns-2 c = sym (ap (λ (x : Checked). told (checked_answer x)) c.before.c.given.1)
 

@@ -11,42 +11,42 @@ use Rattle.digits.specs.declared.answers.Number.{Number}
 use Rattle.digits.proofs.numbers.natural.Statement.{statement}
 use Rattle.digits.proofs.numbers.natural.Tie as tie
 
-abbrev invariant-loop : tie.invariant-loop
-invariant-loop text value₀ i₀ value i = (value < 2 ^ 64) × (continued value (drop i text) ≡ Numbers.natural text)
+abbrev invariant-loop-i : tie.invariant-loop-i
+invariant-loop-i text value₀ i₀ value i = (value < 2 ^ 64) × (continued value (drop i text) ≡ Numbers.natural text)
 
-abbrev decreases-loop : tie.decreases-loop
-decreases-loop text value₀ i₀ value i = length text - i
+abbrev decreases-loop-i : tie.decreases-loop-i
+decreases-loop-i text value₀ i₀ value i = length text - i
 
 -- what the text gives, by the answer for the next byte
-next : (c : tie.After-with-digit invariant-loop decreases-loop) (r : Number) → c.with-digit.result ≡ r
-    → following r (drop (c.before.before.before.loop.i + 1) c.before.before.before.before.before.before.args.text.now)
+next : (c : tie.After-with_digit invariant-loop-i decreases-loop-i) (r : Number) → c.with_digit.result ≡ r
+    → following r (drop (c.before.before.before.loop-i.i + 1) c.before.before.before.before.before.before.args.text.now)
     ≡ Numbers.natural c.before.before.before.before.before.before.args.text.now
 next c r e =
     let l = c.before.before.before in
     let text = l.before.before.before.args.text.now in
-    ap (λ (y : Number). following y (drop (l.loop.i + 1) text)) (sym e ∙ c.with-digit.ensures)
-    ∙ sym (continued_at l.loop.value text l.loop.i (omega arith))
-    ∙ l.loop.invariant.1
+    ap (λ (y : Number). following y (drop (l.loop-i.i + 1) text)) (sym e ∙ c.with_digit.ensures)
+    ∙ sym (continued_at l.loop-i.value text l.loop-i.i (omega arith))
+    ∙ l.loop-i.invariant.1
 
-returns-2 : tie.Need-returns-2 invariant-loop decreases-loop
+returns-2 : tie.Need-returns-in_default invariant-loop-i decreases-loop-i
 unfolding following
 returns-2 c = next c.before.before _ c.enum_told.given.1
 
-loop-again : tie.Need-loop-preserved invariant-loop decreases-loop
+loop-again : tie.Need-loop-i-preserved invariant-loop-i decreases-loop-i
 unfolding following
 loop-again c =
     let d = c.before.before.before in
     let is = c.before.next.given.1 in
-    (continued-below _ _ _ (sym d.with-digit.ensures ∙ is), next d _ is)
+    (continued-below _ _ _ (sym d.with_digit.ensures ∙ is), next d _ is)
 
-returns-3 : tie.Need-returns-3 invariant-loop decreases-loop
+returns-3 : tie.Need-returns invariant-loop-i decreases-loop-i
 returns-3 c =
     let l = c.before in
     let text = l.before.before.before.args.text.now in
-    sym (continued_past l.loop.value text l.loop.i l.loop.invariant.0 (omega arith)) ∙ l.loop.invariant.1
+    sym (continued_past l.loop-i.value text l.loop-i.i l.loop-i.invariant.0 (omega arith)) ∙ l.loop-i.invariant.1
 
 pub natural_spec : {M : Type 1} → statement M
 natural_spec =
     tie.close
-    (tie.spec invariant-loop decreases-loop (λ c. sym (natural_empty _ c.if1.true)) (λ c. (omega arith, continued-first _ (omega arith))) (λ c. search rules) (λ c κs. search rules)
+    (tie.spec invariant-loop-i decreases-loop-i (λ c. sym (natural_empty _ c.if-text-eq0.true)) (λ c. (omega arith, continued-first _ (omega arith))) (λ c. search rules) (λ c κs. search rules)
     (λ c. search rules) (λ c. search rules) returns-2 (λ c. search rules) (λ c. search rules) loop-again returns-3)

@@ -14,7 +14,7 @@ use Rattle.digits.proofs.numbers.signed.Statement.{statement}
 use Rattle.digits.proofs.numbers.signed.Tie as tie
 
 -- a number below 2^63 and its negative, in 64 bits
-module _ (c : tie.Else1) where
+module _ (c : tie.Else-size-gt9223372036854775807) where
   abbrev size : ℕ
   size = c.before.before.n.given.0.0
 
@@ -24,24 +24,24 @@ module _ (c : tie.Else1) where
   less : Small (pos 0 -ℤ to_z w64 size) (pos 0 -ℤ pos size) 9223372036854775807
   less = difference (literal 0) plain
 
-returns : tie.Need-returns
+returns : tie.Need-returns-in_default
 unfolding with_sign
 returns c = ap (with_sign c.before.before.args.minus) (sym c.enum_told.given.1)
 
-returns-2 : tie.Need-returns-2
+returns-2 : tie.Need-returns-then-size-gt9223372036854775807
 returns-2 c =
     let n = c.before.before.n.given in
     sym (sign_over _ n.0.0 n.1 (omega arith))
 
-returns-3 : tie.Need-returns-3
+returns-3 : tie.Need-returns-then-minus
 returns-3 c =
     let n = c.before.before.before.n.given in
-    sym (sign_below _ n.0.0 n.1 (omega arith) c.if2.true ((stored w64 (less c.before) (lit< tt)).is ∙ +ℤ_idl (neg_ℤ (pos n.0.0))))
+    sym (sign_below _ n.0.0 n.1 (omega arith) c.if-minus.true ((stored w64 (less c.before) (lit< tt)).is ∙ +ℤ_idl (neg_ℤ (pos n.0.0))))
 
-returns-4 : tie.Need-returns-4
+returns-4 : tie.Need-returns
 returns-4 c =
     let n = c.before.before.before.n.given in
-    sym (sign_below _ n.0.0 n.1 (omega arith) c.if2.false (plain c.before).is)
+    sym (sign_below _ n.0.0 n.1 (omega arith) c.if-minus.false (plain c.before).is)
 
 pub signed_spec : {M : Type 1} → statement M
 signed_spec =

@@ -8,12 +8,12 @@ use Rattle.digits.specs.laws.Numbers.{continued-low, continued-high, continued_o
 use Rattle.digits.proofs.numbers.with_digit.Statement.{statement}
 use Rattle.digits.proofs.numbers.with_digit.Tie as tie
 
-returns-3 : tie.Need-returns-3
+returns-3 : tie.Need-returns-then-d-n
 returns-3 c =
     let a = c.before.before.before.args in
     sym (continued_over a.n a.byte [] (omega arith))
 
-returns-4 : tie.Need-returns-4
+returns-4 : tie.Need-returns
 returns-4 c =
     let a = c.before.before.before.args in
     sym (continued_digit a.n a.byte [] (omega arith) (omega arith) ∙ continued-end (a.n * 10 + (a.byte - 48)) (omega arith))
@@ -21,5 +21,5 @@ returns-4 c =
 pub with_digit_spec : {M : Type 1} → statement M
 with_digit_spec =
     tie.close
-    (tie.spec (λ c. sym (continued-low _ _ [] c.if1.true)) (λ c. sym (continued-high _ _ [] c.if2.true)) (λ c. search rules) (λ c. search rules) returns-3
+    (tie.spec (λ c. sym (continued-low _ _ [] c.if-byte-lt48.true)) (λ c. sym (continued-high _ _ [] c.if-byte-gt57.true)) (λ c. search rules) (λ c. search rules) returns-3
     (λ c. search rules) (λ c. search rules) returns-4)

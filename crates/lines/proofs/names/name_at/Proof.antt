@@ -9,12 +9,12 @@ use Rattle.lines.specs.laws.Words.{name_past}
 use Rattle.lines.proofs.names.name_at.Statement.{statement}
 use Rattle.lines.proofs.names.name_at.Tie as tie
 
-returns : tie.Need-returns
+returns : tie.Need-returns-then-first-i
 returns c =
     let a = c.before.before.before.args in
     sym (name_past a.table.now (a.first + a.i) (omega arith))
 
-returns-2 : tie.Need-returns-2
+returns-2 : tie.Need-returns
 unfolding Words.name_at
 returns-2 c = c.word.ensures ∙ ap (λ (t : List ℕ). Words.word t 0) c.before.line.ensures
 

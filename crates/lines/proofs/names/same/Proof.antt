@@ -9,36 +9,36 @@ use Rattle.lines.specs.laws.Words.{same_length, same_next, same_not, same_end}
 use Rattle.lines.proofs.names.same.Statement.{statement}
 use Rattle.lines.proofs.names.same.Tie as tie
 
-abbrev invariant-loop : tie.invariant-loop
-invariant-loop a b i₀ i = Words.same (drop i a) (drop i b) ≡ Words.same a b
+abbrev invariant-loop-i : tie.invariant-loop-i
+invariant-loop-i a b i₀ i = Words.same (drop i a) (drop i b) ≡ Words.same a b
 
-abbrev decreases-loop : tie.decreases-loop
-decreases-loop a b i₀ i = length a - i
+abbrev decreases-loop-i : tie.decreases-loop-i
+decreases-loop-i a b i₀ i = length a - i
 
-returns : tie.Need-returns invariant-loop decreases-loop
-returns c = sym (same_length _ _ c.if1.true)
+returns : tie.Need-returns-then-a-b invariant-loop-i decreases-loop-i
+returns c = sym (same_length _ _ c.if-a-b.true)
 
-loop-holds : tie.Need-loop-init invariant-loop decreases-loop
+loop-holds : tie.Need-loop-i-init invariant-loop-i decreases-loop-i
 loop-holds c = refl
 
-returns-2 : tie.Need-returns-2 invariant-loop decreases-loop
+returns-2 : tie.Need-returns-then-a-i invariant-loop-i decreases-loop-i
 returns-2 c =
     let l = c.before.before.before.before in
     let a = l.before.before.args in
-    sym (sym l.loop.invariant ∙ same_not a.a.now a.b.now l.loop.i (omega arith) (omega arith) c.if2.true)
+    sym (sym l.loop-i.invariant ∙ same_not a.a.now a.b.now l.loop-i.i (omega arith) (omega arith) c.if-a-i.true)
 
-loop-again : tie.Need-loop-preserved invariant-loop decreases-loop
+loop-again : tie.Need-loop-i-preserved invariant-loop-i decreases-loop-i
 loop-again c =
     let l = c.before.before.before.before in
     let a = l.before.before.args in
-    sym (same_next a.a.now a.b.now l.loop.i (omega arith) (omega arith) c.if2.false) ∙ l.loop.invariant
+    sym (same_next a.a.now a.b.now l.loop-i.i (omega arith) (omega arith) c.if-a-i.false) ∙ l.loop-i.invariant
 
-returns-3 : tie.Need-returns-3 invariant-loop decreases-loop
+returns-3 : tie.Need-returns invariant-loop-i decreases-loop-i
 returns-3 c =
     let l = c.before in
     let a = l.before.before.args in
-    sym (sym l.loop.invariant ∙ same_end a.a.now a.b.now l.loop.i (omega arith) (omega arith))
+    sym (sym l.loop-i.invariant ∙ same_end a.a.now a.b.now l.loop-i.i (omega arith) (omega arith))
 
 pub same_spec : {M : Type 1} → statement M
 same_spec =
-    tie.close (tie.spec invariant-loop decreases-loop returns loop-holds (λ c. search rules) (λ c. search rules) returns-2 (λ c. search rules) (λ c. search rules) loop-again returns-3)
+    tie.close (tie.spec invariant-loop-i decreases-loop-i returns loop-holds (λ c. search rules) (λ c. search rules) returns-2 (λ c. search rules) (λ c. search rules) loop-again returns-3)

@@ -12,11 +12,11 @@ use Rattle.lines.specs.laws.Words.{leading_next, leading_stop, leading_end}
 use Rattle.lines.proofs.words.skip.Statement.{statement}
 use Rattle.lines.proofs.words.skip.Tie as tie
 
-abbrev invariant-loop : tie.invariant-loop
-invariant-loop text limit above from at₀ at = (after text limit above at ≡ after text limit above from) × (from ≤ at) × (at ≤ length text)
+abbrev invariant-loop-at : tie.invariant-loop-at
+invariant-loop-at text limit above from at₀ at = (after text limit above at ≡ after text limit above from) × (from ≤ at) × (at ≤ length text)
 
-abbrev decreases-loop : tie.decreases-loop
-decreases-loop text limit above from at₀ at = length text - at
+abbrev decreases-loop-at : tie.decreases-loop-at
+decreases-loop-at text limit above from at₀ at = length text - at
 
 -- the side of a byte, as the code tests it
 tested : (limit : ℕ) (above : Bool) (x : ℕ) → side limit above x ≡ beq (ltb limit x) above
@@ -32,35 +32,35 @@ tested limit false x = go (ltb limit x) refl
     go true e = lt-leb x limit (ltb-true limit x e)
     go false e = le-leb x limit (ltb-false limit x e)
 
-loop-holds : tie.Need-loop-init invariant-loop decreases-loop
+loop-holds : tie.Need-loop-at-init invariant-loop-at decreases-loop-at
 loop-holds c = (refl, search rules, search rules)
 
-returns : tie.Need-returns invariant-loop decreases-loop
+returns : tie.Need-returns-then-limit-text invariant-loop-at decreases-loop-at
 unfolding after
 returns c =
     let l = c.before.before.before in
     let a = l.before.args in
-    let other = tested a.limit a.above _ ∙ not-true _ c.if1.true in
-    let none = ap length (leading_stop (side a.limit a.above) a.text.now l.loop.at (omega arith) other) in
-    (omega (arith, l.loop.invariant.0), omega arith, omega arith)
+    let other = tested a.limit a.above _ ∙ not-true _ c.if-limit-text.true in
+    let none = ap length (leading_stop (side a.limit a.above) a.text.now l.loop-at.at (omega arith) other) in
+    (omega (arith, l.loop-at.invariant.0), omega arith, omega arith)
 
-loop-again : tie.Need-loop-preserved invariant-loop decreases-loop
+loop-again : tie.Need-loop-at-preserved invariant-loop-at decreases-loop-at
 unfolding after
 loop-again c =
     let l = c.before.before.before in
     let a = l.before.args in
-    let this = tested a.limit a.above _ ∙ not-false _ c.if1.false in
-    let one = ap length (leading_next (side a.limit a.above) a.text.now l.loop.at (omega arith) this) in
-    (omega (arith, l.loop.invariant.0), omega arith, omega arith)
+    let this = tested a.limit a.above _ ∙ not-false _ c.if-limit-text.false in
+    let one = ap length (leading_next (side a.limit a.above) a.text.now l.loop-at.at (omega arith) this) in
+    (omega (arith, l.loop-at.invariant.0), omega arith, omega arith)
 
-returns-2 : tie.Need-returns-2 invariant-loop decreases-loop
+returns-2 : tie.Need-returns invariant-loop-at decreases-loop-at
 unfolding after
 returns-2 c =
     let l = c.before in
     let a = l.before.args in
-    let none = ap length (leading_end (side a.limit a.above) a.text.now l.loop.at (omega arith)) in
-    (omega (arith, l.loop.invariant.0), omega arith, omega arith)
+    let none = ap length (leading_end (side a.limit a.above) a.text.now l.loop-at.at (omega arith)) in
+    (omega (arith, l.loop-at.invariant.0), omega arith, omega arith)
 
 pub skip_spec : {M : Type 1} → statement M
 skip_spec =
-    tie.close (tie.spec invariant-loop decreases-loop loop-holds (λ c. search rules) returns (λ c. search rules) (λ c. search rules) loop-again returns-2)
+    tie.close (tie.spec invariant-loop-at decreases-loop-at loop-holds (λ c. search rules) returns (λ c. search rules) (λ c. search rules) loop-again returns-2)

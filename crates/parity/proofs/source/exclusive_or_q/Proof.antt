@@ -15,17 +15,17 @@ odd x q h = omega arith
 even : (x q : ℕ) → q % 2 ≡ 0 → x % 2 ≡ (x ⊕ q) % 2
 even x q h = omega arith
 
-returns : tie.Need-returns
+returns : tie.Need-returns-then-q-eq1
 returns c =
     let a = c.before.args in
     ap (λ (x : ℕ). 0xffffff - x) (sym (pack_lowest 24 a.bits))
     ∙ pack-inverse 24 (unpack 24 a.bits)
-    ∙ pack-same 24 (inverse (unpack 24 a.bits)) (λ i. unpack 24 a.bits i ⊕ a.q) (λ i l. odd (unpack 24 a.bits i) a.q c.if1.true)
+    ∙ pack-same 24 (inverse (unpack 24 a.bits)) (λ i. unpack 24 a.bits i ⊕ a.q) (λ i l. odd (unpack 24 a.bits i) a.q c.if-q-eq1.true)
 
-returns-2 : tie.Need-returns-2
+returns-2 : tie.Need-returns
 returns-2 c =
     let a = c.before.args in
-    let q : a.q % 2 ≡ 0 = omega (arith, c.if1.false) in
+    let q : a.q % 2 ≡ 0 = omega (arith, c.if-q-eq1.false) in
     sym (pack_lowest 24 a.bits)
     ∙ pack-same 24 (unpack 24 a.bits) (λ i. unpack 24 a.bits i ⊕ a.q) (λ i l. even (unpack 24 a.bits i) a.q q)
 

@@ -26,7 +26,7 @@ returns : tie.Need-returns
 unfolding source_bits
 returns c =
     let w = c.before.args.window in
-    c.exclusive-or-q.ensures
+    c.exclusive_or_q.ensures
     ∙ pack-same 24 (λ i. unpack 24 (w / 0x40) i ⊕ (w / 0x40000000)) (λ i. source_bit (unpack 32 w) (suc i)) (undone w)
 
 pub source_bits_spec : {M : Type 1} → statement M

@@ -12,7 +12,7 @@ use Rattle.parity.proofs.syndrome.equation_failure.Tie as tie
 returns : tie.Need-returns
 returns c =
     let a = c.before.args in
-    ap (λ (m : ℕ). ones (bit_and a.window m) % 2) (c.mask-table.ensures a.k (omega arith)) ∙ mask_failure a.k (omega arith) a.window (omega arith)
+    ap (λ (m : ℕ). ones (bit_and a.window m) % 2) (c.mask_table.ensures a.k (omega arith)) ∙ mask_failure a.k (omega arith) a.window (omega arith)
 
 pub equation_failure_spec : {M : Type 1} → statement M
 equation_failure_spec = tie.close (tie.spec (λ c κs. search rules) (λ c. search rules) (λ c. search rules) returns)

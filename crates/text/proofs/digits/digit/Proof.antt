@@ -14,7 +14,7 @@ past n k l h =
     let none : n / 2 ^ k ≡ 0 = div-eq_of_lt (omega arith) in
     sym (ap (λ (x : ℕ). x % 2) none)
 
-returns-2 : tie.Need-returns-2
+returns-2 : tie.Need-returns
 returns-2 c = past c.before.args.n c.before.args.k (omega arith) (omega arith)
 
 pub digit_spec : {M : Type 1} → statement M

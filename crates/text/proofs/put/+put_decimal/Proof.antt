@@ -40,12 +40,12 @@ put_decimal_spec = close μ-put-decimal λ t. put-decimal-lts.spec (
     (λ c.
     let b = c.before.before in
     let d = b.before.before in
-    put_same b.put_byte.ensures (sym (decimal_one d.before.before.args.n d.if1.true)))
+    put_same b.put_byte.ensures (sym (decimal_one d.before.before.args.n d.if-n-lt10.true)))
     (λ c κs. (omega arith, tt))
     (λ c κs. tt)
-    (λ c. c.before.before.put-byte2.auto.0 ∙ c.before.before.before.before.before.before.put-decimal.auto.0)
+    (λ c. c.before.before.put_byte-2.auto.0 ∙ c.before.before.before.before.before.before.put_decimal-next.auto.0)
     (λ c.
     let b = c.before.before in
     let e = b.before.before.before.before in
     let d = e.before.before in
-    put_same (put_more e.put-decimal.ensures b.put-byte2.ensures) (sym (decimal_more d.before.before.args.n d.if1.false)))
+    put_same (put_more e.put_decimal-next.ensures b.put_byte-2.ensures) (sym (decimal_more d.before.before.args.n d.if-n-lt10.false)))

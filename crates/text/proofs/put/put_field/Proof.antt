@@ -9,7 +9,7 @@ returns : tie.Need-returns
 unfolding ascii
 returns c =
     let b = c.before.before in
-    put_more b.before.before.before.before.put-decimal.ensures b.put_byte.ensures
+    put_more b.before.before.before.before.put_decimal-next.ensures b.put_byte.ensures
 
 pub put_field_spec : {M : Type 1} → statement M
 put_field_spec = tie.close (tie.spec (λ c κs. search rules) (λ c κs. search rules) (λ c. search rules) returns)

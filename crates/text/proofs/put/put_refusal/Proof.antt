@@ -11,7 +11,7 @@ returns c =
     let b = c.before.before in
     let d = b.before.before.before.before in
     let t = d.before.before.before.before in
-    put_more t.put-text.ensures (put_more d.put-decimal.ensures b.put_byte.ensures)
+    put_more t.put_text-next.ensures (put_more d.put_decimal-end.ensures b.put_byte.ensures)
 
 pub put_refusal_spec : {M : Type 1} → statement M
 put_refusal_spec = tie.close (tie.spec (λ c. search rules) (λ c κs. search rules) (λ c κs. search rules) (λ c κs. search rules) (λ c. search rules) returns)
