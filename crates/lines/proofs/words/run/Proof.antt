@@ -31,7 +31,7 @@ loop-again c =
     let a = l.before.before.before.args in
     let more : suc (l.loop-left.left - 1) ≡ l.loop-left.left = omega arith in (
       omega arith,
-      sym (run_next a.text.now a.limit l.loop-left.from first.skip.result c.skip-from.result first.skip.ensures.0 c.skip-from.ensures.0 (l.loop-left.left - 1))
+      sym (run_next a.text.now a.limit l.loop-left.from first.skip-before.result c.skip-from.result first.skip-before.ensures.0 c.skip-from.ensures.0 (l.loop-left.left - 1))
           ∙ ap (Words.run (drop l.loop-left.from a.text.now) a.limit) more
           ∙ l.loop-left.invariant.1,
     )

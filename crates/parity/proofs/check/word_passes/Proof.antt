@@ -9,7 +9,7 @@ use Rattle.parity.proofs.check.word_passes.Tie as tie
 
 returns : tie.Need-returns
 unfolding passes
-returns c = ap (λ (x : ℕ). eqb x 0) c.syndrome_of.ensures.number
+returns c = ap (λ (x : ℕ). eqb x 0) c.syndrome_of.ensures.0
 
 pub word_passes_spec : {M : Type 1} → statement M
 word_passes_spec = tie.close (tie.spec (λ c κs. search rules) returns)

@@ -28,7 +28,7 @@ loop-again c =
     let l = d.before.before.before in
     let a = l.before.before.args in (
       omega arith,
-      put_run l.loop-i.i 1 (unpack a.width a.n) (λ j. d.digit.result) l.loop-i.invariant.1 put.put_byte.ensures
+      put_run l.loop-i.i 1 (unpack a.width a.n) (λ j. d.digit.result) l.loop-i.invariant.1 put.put_byte-next.ensures
           (λ j h.
           let first : l.loop-i.i + j ≡ l.loop-i.i = omega arith in
           d.digit.ensures ∙ ap (λ (k : ℕ). a.n / 2 ^ (a.width - 1 - k) % 2) (sym first)),

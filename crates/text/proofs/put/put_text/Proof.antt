@@ -30,7 +30,7 @@ loop-again c =
     let put = c.before.before in
     let l = put.before.before.before.before in
     let text = l.before.before.before.args.text.now in
-    (omega arith, put_same (put_more l.loop-i.invariant.1 put.put_byte.ensures) (take_more text l.loop-i.i (omega arith)))
+    (omega arith, put_same (put_more l.loop-i.invariant.1 put.put_byte-next.ensures) (take_more text l.loop-i.i (omega arith)))
 
 same_length : tie.Need-shape_of-out invariant-loop-i decreases-loop-i
 same_length c = put_length c.before.loop-i.invariant.1
