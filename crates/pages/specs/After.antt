@@ -1,6 +1,6 @@
 -- Definitions. What is held after a record: it takes the place of the one of its kind, and all else stays (document 01, 'Finding and holding').
 use Rattle.std.specs.Prelude.{cond, List, ◌-◌, set}
-use Rattle.std.proofs.Math.Option.{Option·elim}
+use Rattle.std.proofs.Math.Option.{Option-elim}
 use Rattle.record.specs.AsKind.{as_almanac, as_utc}
 use Rattle.record.specs.declared.record.AlmanacPage.{AlmanacPage}
 use Rattle.record.specs.declared.record.Record.{Record}
@@ -16,10 +16,10 @@ unfoldable pub stored : List AlmanacEntry → AlmanacPage → List AlmanacEntry
 stored entries page = cond (is_satellite page.sv_id) (set entries (page.sv_id - 1) (record { page = HA.Latest page })) entries
 
 unfoldable pub almanac_after : List AlmanacEntry → Record → List AlmanacEntry
-almanac_after entries r = Option·elim (as_almanac r) entries (stored entries)
+almanac_after entries r = Option-elim (as_almanac r) entries (stored entries)
 
 unfoldable pub utc_after : HeldUtc → Record → HeldUtc
-utc_after utc r = Option·elim (as_utc r) utc HU.Latest
+utc_after utc r = Option-elim (as_utc r) utc HU.Latest
 
 unfoldable pub pages_after : Pages → Record → Pages
 pages_after held r = record { almanac = almanac_after held.almanac r; utc = utc_after held.utc r }

@@ -1,5 +1,5 @@
 -- Definitions. What is held of one satellite, and what a record of its own does to it (document 01, 'Finding and holding').
-use Rattle.std.proofs.Math.Option.{Option·elim}
+use Rattle.std.proofs.Math.Option.{Option-elim}
 use Rattle.record.specs.AsKind.{as_subframe1, as_subframe2, as_subframe3}
 use Rattle.record.specs.declared.record.Record.{Record}
 use Rattle.orbit_set.specs.declared.held.HeldSubframes.{HeldSubframes}
@@ -16,9 +16,9 @@ empty_satellite = record { subframes = record { subframe1 = H1.Nothing; subframe
 unfoldable pub subframes_after : HeldSubframes → Record → HeldSubframes
 subframes_after held r =
     record {
-      subframe1 = Option·elim (as_subframe1 r) held.subframe1 H1.Latest;
-      subframe2 = Option·elim (as_subframe2 r) held.subframe2 H2.Latest;
-      subframe3 = Option·elim (as_subframe3 r) held.subframe3 H3.Latest;
+      subframe1 = Option-elim (as_subframe1 r) held.subframe1 H1.Latest;
+      subframe2 = Option-elim (as_subframe2 r) held.subframe2 H2.Latest;
+      subframe3 = Option-elim (as_subframe3 r) held.subframe3 H3.Latest;
     }
 
 unfoldable pub satellite_after : Satellite → Record → Satellite

@@ -43,6 +43,8 @@ module _ (a k : ℕ) (hk : k ≤ 1074) where
       ∙ ap (λ (y : ℕ). y * 2 ^ (1074 - k)) v.1 ∙ mul_right_comm a (down g) (2 ^ (1074 - k)))
       ∙ mul-div_cancel count (down_pos g) in
       λ i. cond (v.0 i) (2 ^ 63) 0 + (size (is i) - 53) * 2 ^ 52 + is i / 2 ^ (size (is i) - 53)
+  by_count lib.Ieee.nan s v = elim v [ ]
+  by_count (lib.Ieee.inf _) s v = elim v [ ]
 
   small : (x : Float) (s : Bool) → HasValue x s a (2 ^ k) → count < 2 ^ 52 → Pattern x (cond s 1 0) 0 count
   small x s v h =

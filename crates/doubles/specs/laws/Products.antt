@@ -29,6 +29,10 @@ mul-value f (fin s' m e) (fin t' n g) s t a b c d C D v w =
     (λ i. round f (unlike (v.0 i) (w.0 i)) (m * up e * (n * up g)) (down e * down g))
     ∙ round_same f (unlike s t) (m * up e * (n * up g)) (down e * down g) (a * b) (c * d) (mul-pos (down_pos e) (down_pos g)) (mul-pos C D)
     (cross m (up e) n (up g) a b c d (down e) (down g) v.1 w.1)
+mul-value f lib.Ieee.nan y s t a b c d C D v w = elim v [ ]
+mul-value f (lib.Ieee.inf _) y s t a b c d C D v w = elim v [ ]
+mul-value f (fin s' m e) lib.Ieee.nan s t a b c d C D v w = elim w [ ]
+mul-value f (fin s' m e) (lib.Ieee.inf _) s t a b c d C D v w = elim w [ ]
 
 unlike_plus : (s : Bool) → unlike s false ≡ s
 unlike_plus true = refl

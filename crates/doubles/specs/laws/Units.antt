@@ -44,6 +44,8 @@ counted f (fin s (suc m) e) t h =
     let in_f = held f s m e h in
     let at = place (suc m) (low f) e in_f.1 in
     record { sign = s; m = suc m; j = at.0; digits = in_f.0; value = (refl, at.1) }
+counted f lib.Ieee.nan t h = elim t [ ]
+counted f (lib.Ieee.inf _) t h = elim t [ ]
 
 -- ---- two numbers in the same units, x of n and y of k: which is nearer to a / c, and that they are not equal
 
@@ -67,6 +69,8 @@ module _ (L a c : ℕ) (P : 0 < L) where
       ∙ apart-mul s (m * up e * c) (a * down e) L
       ∙ (λ i. apart s ((mul_right_comm (m * up e) c L ∙ ap (λ (z : ℕ). z * c) v.1 ∙ mul_right_comm n (down e) c) i) (mul_right_comm a (down e) L i))
       ∙ sym (apart-mul s (n * c) (a * L) (down e))
+  distance-units lib.Ieee.nan s n v = elim v [ ]
+  distance-units (lib.Ieee.inf _) s n v = elim v [ ]
 
   pub nearer-units : (x y : Float) (s t : Bool) (n k : ℕ) → HasValue x s n L → HasValue y t k L → T (nearer a c x y) ↔ (apart s (n * c) (a * L) < apart t (k * c) (a * L))
   unfolding nearer
@@ -100,3 +104,9 @@ module _ (L a c : ℕ) (P : 0 < L) where
       let same = cross (m * up e) n (down e) (g * up d) k (down d) v.1 w.1 (none ∙ sym nought) in
       let zero-y = cross 0 0 (down e) (g * up d) k (down d) (zero-mul L ∙ sym (zero-mul (down e))) w.1 none ∙ zero-mul (down d) in
       T_not (eqb y x && eqb y 0) h (and_i (eqb y x) (eqb y 0) (eq→eqb same) (eq→eqb zero-y)))
+  differs lib.Ieee.nan y s n k v w h = elim v [ ]
+  differs (lib.Ieee.inf _) y s n k v w h = elim v [ ]
+  differs (fin false m e) lib.Ieee.nan s n k v w h = elim w [ ]
+  differs (fin false m e) (lib.Ieee.inf _) s n k v w h = elim w [ ]
+  differs (fin true m e) lib.Ieee.nan s n k v w h = elim w [ ]
+  differs (fin true m e) (lib.Ieee.inf _) s n k v w h = elim w [ ]

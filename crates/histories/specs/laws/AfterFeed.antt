@@ -2,7 +2,7 @@
 use Rattle.std.specs.Prelude.{◌≡◌, Bool, true, false, cond, not, ◌&&◌, List, eqb, leb, length, set}
 use Rattle.std.proofs.Math.Path.{refl}
 use Rattle.std.proofs.Common.{ap, ◌∙◌, arith, eqb-true, length-set}
-use Rattle.std.proofs.Math.Option.{Option, none, some, Option·elim, bind, or_else}
+use Rattle.std.proofs.Math.Option.{Option, none, some, Option-elim, bind, or_else}
 use Prim.Native.Nat.{ℕ, ◌-◌, ◌≤◌}
 use Rattle.std.proofs.lemmas.Bool.{not-false}
 use Rattle.std.proofs.Math.ListN.{get_or}
@@ -109,10 +109,10 @@ module _ (c : Collector) (f : Feed) where
 
   -- what is held of satellite n
   pub satellite-fed : (n : ℕ) → is_satellite n ≡ true → Sized c
-      → satellite_of (after c f) n ≡ Option·elim (brought_for n f) (satellite_of c n) (satellite_after (satellite_of c n))
-  unfolding brought_for Option·elim satellite_of kept
+      → satellite_of (after c f) n ≡ Option-elim (brought_for n f) (satellite_of c n) (satellite_after (satellite_of c n))
+  unfolding brought_for Option-elim satellite_of kept
   satellite-fed n here h =
-      by_answer (λ o d. satellite_of d n ≡ Option·elim (cond (eqb m n) o none) row (satellite_after row))
+      by_answer (λ o d. satellite_of d n ≡ Option-elim (cond (eqb m n) o none) row (satellite_after row))
       (unchanged (eqb m n)) (λ r from k. entry-after c.satellites m n _ empty_satellite (bounds m from).0 (bounds n here).0 (omega (arith, bounds n here, h.satellites)) ∙ stored r (eqb m n) refl)
     where
       m : ℕ
@@ -121,11 +121,11 @@ module _ (c : Collector) (f : Feed) where
       row : Satellite
       row = satellite_of c n
 
-      unchanged : (b : Bool) → row ≡ Option·elim (cond {A = Option Record} b none none) row (satellite_after row)
+      unchanged : (b : Bool) → row ≡ Option-elim (cond {A = Option Record} b none none) row (satellite_after row)
       unchanged true = refl
       unchanged false = refl
 
-      stored : (r : Record) (b : Bool) → eqb m n ≡ b → cond b (satellite_after (satellite_of c m) r) row ≡ Option·elim (cond b (some r) none) row (satellite_after row)
+      stored : (r : Record) (b : Bool) → eqb m n ≡ b → cond b (satellite_after (satellite_of c m) r) row ≡ Option-elim (cond b (some r) none) row (satellite_after row)
       stored r true e = ap (λ (k : ℕ). satellite_after (satellite_of c k) r) (eqb-true m n e)
       stored r false e = refl
 
@@ -138,7 +138,7 @@ module _ (c : Collector) (f : Feed) where
 
   -- what is held for SV ID n
   pub almanac-fed : (n : ℕ) → is_satellite n ≡ true → Sized c → held_almanac (after c f) n ≡ or_else (almanac_for n f) (held_almanac c n)
-  unfolding almanac_for with_id bind or_else held_almanac Pages.held_almanac almanac_in kept pages_after almanac_after as_almanac by_kind Option·elim
+  unfolding almanac_for with_id bind or_else held_almanac Pages.held_almanac almanac_in kept pages_after almanac_after as_almanac by_kind Option-elim
   almanac-fed n here h =
       by_answer (λ o d. held_almanac d n ≡ or_else (bind (bind o as_almanac) (with_id n)) (held_almanac c n)) refl (λ r from k. held_after r k)
     where
@@ -171,11 +171,11 @@ module _ (c : Collector) (f : Feed) where
 -- a page leaves what is held of the satellite as it was
 kept_page : (c : Collector) (n : ℕ) (r : Record) → as_subframe1 r ≡ none → as_subframe2 r ≡ none → as_subframe3 r ≡ none
     → kept c n r ≡ record { satellites = c.satellites; pages = pages_after c.pages r }
-unfolding kept satellite_of satellite_after subframes_after Option·elim
+unfolding kept satellite_of satellite_after subframes_after Option-elim
 kept_page c n r no-1 no-2 no-3 =
     rw (no-1, no-2, no-3)
     (ap (λ (l : List Satellite). record { satellites = l; pages = pages_after c.pages r }) (set-get_or c.satellites (n - 1) empty_satellite))
 
 pub other_fed : (c : Collector) (s : List ℕ) (p n : ℕ) (page : OtherPage) → feed s p n ≡ accepted (R.Other page) → fed c s p n ≡ c
-unfolding pages_after almanac_after utc_after as_subframe1 as_subframe2 as_subframe3 as_almanac as_utc by_kind Option·elim
+unfolding pages_after almanac_after utc_after as_subframe1 as_subframe2 as_subframe3 as_almanac as_utc by_kind Option-elim
 other_fed c s p n page e = fed-accepted s p n c (R.Other page) e ∙ kept_page c n (R.Other page) refl refl refl

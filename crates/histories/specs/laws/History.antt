@@ -4,7 +4,7 @@ use Rattle.std.proofs.Math.Path.{refl, ap}
 use Rattle.std.proofs.Common.{◌∙◌, arith}
 use Rattle.std.proofs.Math.Bool.{true, false}
 use mathlib.Core.List.{List, [], ◌∷◌, ◌++◌}
-use Rattle.std.proofs.Math.Option.{Option, none, some, Option·elim, bind, or_else, none-ne-some}
+use Rattle.std.proofs.Math.Option.{Option, none, some, Option-elim, bind, or_else, none-ne-some}
 use Rattle.std.proofs.Math.Dec.{eqb}
 use Rattle.std.proofs.lemmas.List.{get_or-replicate}
 use Rattle.record.specs.AsKind.{as_subframe1, as_subframe2, as_subframe3}
@@ -44,13 +44,13 @@ module _ (n : ℕ) (here : is_satellite n ≡ true) where
   of_satellite : {A : Type 0} (view : Satellite → Option A) (kind : Record → Option A) → view empty_satellite ≡ none
       → ((s : Satellite) (r : Record) → view (satellite_after s r) ≡ or_else (kind r) (view s))
       → (history : List Feed) → view (satellite_of (reached history) n) ≡ latest (λ f. bind (brought_for n f) kind) history
-  unfolding satellite_of empty_collector Option·elim bind or_else
+  unfolding satellite_of empty_collector Option-elim bind or_else
   of_satellite {A} view kind start step =
       held_latest (λ c. view (satellite_of c n)) (λ f. bind (brought_for n f) kind)
       (ap view (get_or-replicate 32 (n - 1) empty_satellite empty_satellite (omega (arith, bounds n here))) ∙ start)
       (λ c f h. ap view (satellite-fed c f n here h) ∙ by (brought_for n f) (satellite_of c n))
     where
-      by : (o : Option Record) (s : Satellite) → view (Option·elim o s (satellite_after s)) ≡ or_else (bind o kind) (view s)
+      by : (o : Option Record) (s : Satellite) → view (Option-elim o s (satellite_after s)) ≡ or_else (bind o kind) (view s)
       by none s = refl
       by (some r) s = step s r
 

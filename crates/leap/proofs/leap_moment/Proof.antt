@@ -9,7 +9,7 @@ use Rattle.leap.proofs.leap_moment.Tie as tie
 of_32_bits : (n : ℕ) → n < 4294967296 → n ≤ 4294967295
 of_32_bits n h = omega arith
 
-module _ (c : tie.After-week-difference) where
+module _ (c : tie.After-week_difference) where
   abbrev wnlsf : ℕ
   wnlsf = c.before.args.wnlsf
 
@@ -19,13 +19,13 @@ module _ (c : tie.After-week-difference) where
   abbrev week : ℕ
   week = c.before.args.week
 
-  week_is : Small (to_z w64 week +ℤ to_z w64 (of_z w64 c.week-difference.result)) (leap_week wnlsf week) 4294967423
+  week_is : Small (to_z w64 week +ℤ to_z w64 (of_z w64 c.week_difference.result)) (leap_week wnlsf week) 4294967423
   unfolding leap_week
   week_is =
       sum (natural w64 week 4294967295 (of_32_bits week c.before.ranges.week.fits) (lit< tt))
-      (stored w64 (record { is = c.week-difference.ensures; le = difference_size _ _ }) (lit< tt))
+      (stored w64 (record { is = c.week_difference.ensures; le = difference_size _ _ }) (lit< tt))
 
-  start_is : Small (to_z w64 (of_z w64 (to_z w64 week +ℤ to_z w64 (of_z w64 c.week-difference.result))) *ℤ pos 604800) (leap_week wnlsf week *ℤ pos 604800) 2597596297430400
+  start_is : Small (to_z w64 (of_z w64 (to_z w64 week +ℤ to_z w64 (of_z w64 c.week_difference.result))) *ℤ pos 604800) (leap_week wnlsf week *ℤ pos 604800) 2597596297430400
   start_is = product (stored w64 week_is (lit< tt)) (literal 604800)
 
   dn_le : dn ≤ 4294967295
@@ -35,7 +35,7 @@ module _ (c : tie.After-week-difference) where
   days_is = product (natural w64 dn 4294967295 dn_le (lit< tt)) (literal 86400)
 
   moment-is :
-      Small (to_z w64 (of_z w64 (to_z w64 (of_z w64 (to_z w64 week +ℤ to_z w64 (of_z w64 c.week-difference.result))) *ℤ pos 604800)) +ℤ to_z w64 (of_z w64 (to_z w64 dn *ℤ pos 86400)))
+      Small (to_z w64 (of_z w64 (to_z w64 (of_z w64 (to_z w64 week +ℤ to_z w64 (of_z w64 c.week_difference.result))) *ℤ pos 604800)) +ℤ to_z w64 (of_z w64 (to_z w64 dn *ℤ pos 86400)))
       (leap_moment wnlsf dn week) 2968681471718400
   unfolding leap_moment
   moment-is = sum (stored w64 start_is (lit< tt)) (stored w64 days_is (lit< tt))

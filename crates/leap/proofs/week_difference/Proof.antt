@@ -11,10 +11,10 @@ returns : tie.Need-returns
 unfolding week_difference
 returns c =
     let a = c.before.before.args in
-    let d = c.before.wrapping-sub-u8.result in
-    to_z-of_z w64 c.signed-byte.result (search rules)
-    ∙ c.signed-byte.ensures
-    ∙ ap (signed 8) (wraps_back d a.wnlsf (a.week % 256) (search rules) (omega arith) c.before.wrapping-sub-u8.ensures)
+    let d = c.before.wrapping_sub_u8.result in
+    to_z-of_z w64 c.signed_byte.result (search rules)
+    ∙ c.signed_byte.ensures
+    ∙ ap (signed 8) (wraps_back d a.wnlsf (a.week % 256) (search rules) (omega arith) c.before.wrapping_sub_u8.ensures)
 
 pub week_difference_spec : {M : Type 1} → statement M
 week_difference_spec = tie.close (tie.spec (λ c. search rules) (λ c. search rules) (λ c κs. tt) (λ c κs. tt) returns)

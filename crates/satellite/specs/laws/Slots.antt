@@ -1,6 +1,6 @@
 -- Laws. A slot shows the latest record of its kind, nothing before the first.
 use Rattle.std.specs.Prelude.{◌≡◌, refl}
-use Rattle.std.proofs.Math.Option.{Option, none, some, Option·elim, or_else}
+use Rattle.std.proofs.Math.Option.{Option, none, some, Option-elim, or_else}
 use Rattle.record.specs.AsKind.{as_subframe1, as_subframe2, as_subframe3}
 use Rattle.record.specs.declared.record.Record.{Record}
 use Rattle.orbit_set.specs.Held.{subframe1_in, subframe2_in, subframe3_in}
@@ -12,8 +12,8 @@ use Rattle.satellite.specs.declared.Satellite.{Satellite}
 
 -- a slot after a record that is of its kind, or is not
 pub slot-after : {A H : Type 0} (view : H → Option A) (latest : A → H) → ((a : A) → view (latest a) ≡ some a) → (o : Option A) (h : H)
-    → view (Option·elim o h latest) ≡ or_else o (view h)
-unfolding Option·elim or_else
+    → view (Option-elim o h latest) ≡ or_else o (view h)
+unfolding Option-elim or_else
 slot-after view latest shown none h = refl
 slot-after view latest shown (some a) h = shown a
 

@@ -9,7 +9,7 @@ use lib.ListN.{length}
 use Rattle.block.proofs.bounds.has_bytes.Statement.{statement}
 use Rattle.block.proofs.bounds.has_bytes.Tie as tie
 
-returns : tie.Need-returns
+returns : tie.Need-returns-then-log-n
 returns c =
     let a = c.before.args in
     sym (lt-leb (a.p + a.n) (length a.log.now) (omega arith))
@@ -21,7 +21,7 @@ by_rest p n l h = go (leb (p + n) l) refl
     go true e = le-leb p (l - n) (omega (arith, leb-true (p + n) l e))
     go false e = lt-leb p (l - n) (omega (arith, leb-false (p + n) l e))
 
-returns-2 : tie.Need-returns-2
+returns-2 : tie.Need-returns
 returns-2 c =
     let a = c.before.args in
     by_rest a.p a.n (length a.log.now) (omega arith)

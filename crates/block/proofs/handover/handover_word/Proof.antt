@@ -8,7 +8,7 @@ use Rattle.block.proofs.handover.handover_word.Statement.{statement}
 use Rattle.block.proofs.handover.handover_word.Tie as tie
 
 returns : tie.Need-returns
-returns c = c.source-bits.ensures ∙ ap (λ (w : ℕ). source_bits (unpack 32 w)) c.before.window-2.ensures
+returns c = c.source_bits.ensures ∙ ap (λ (w : ℕ). source_bits (unpack 32 w)) c.before.window_2.ensures
 
 pub handover_word_spec : {M : Type 1} → statement M
 handover_word_spec = tie.close (tie.spec (λ c κs. search rules) (λ c κs. search rules) returns)

@@ -10,7 +10,7 @@ use Rattle.block.proofs.handover.subframe_number_at.Tie as tie
 returns : tie.Need-returns
 unfolding subframe_number
 returns c =
-    let w = c.handover-word in
+    let w = c.handover_word in
     let a = c.before.before.args in
     field_at a.log.now a.p 2 19 3 2 refl w.result w.ensures
 

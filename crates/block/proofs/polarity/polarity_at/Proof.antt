@@ -5,10 +5,10 @@ use borrow.Author.Rules.{rules}
 use Rattle.block.proofs.polarity.polarity_at.Statement.{statement}
 use Rattle.block.proofs.polarity.polarity_at.Tie as tie
 
-returns : tie.Need-returns
-returns c = sym c.if1.true ∙ c.before.bit_at.ensures
+returns : tie.Need-returns-then-bit_at-eq0
+returns c = sym c.if-bit_at-eq0.true ∙ c.before.bit_at.ensures
 
-returns-2 : tie.Need-returns-2
+returns-2 : tie.Need-returns
 returns-2 c = omega (arith, c.before.bit_at.ensures)
 
 pub polarity_at_spec : {M : Type 1} → statement M

@@ -9,17 +9,17 @@ use Rattle.encoder.proofs.encode.Packed.{sent, data_sent, sent_source}
 use Rattle.encoder.proofs.encode.data_window.Statement.{statement}
 use Rattle.encoder.proofs.encode.data_window.Tie as tie
 
-is_sent : (c : tie.After-source-bits) → c.source-bits.result ≡ sent c.before.args.q c.before.args.source
-is_sent c = c.source-bits.ensures ∙ sent_source c.before.args.q c.before.args.source
+is_sent : (c : tie.After-source_bits-sent) → c.source_bits-sent.result ≡ sent c.before.args.q c.before.args.source
+is_sent c = c.source_bits-sent.ensures ∙ sent_source c.before.args.q c.before.args.source
 
 -- it has 24 bits, and so the whole is a u32
-sent_lt : (c : tie.After-source-bits) → c.source-bits.result < 0x1000000
+sent_lt : (c : tie.After-source_bits-sent) → c.source_bits-sent.result < 0x1000000
 sent_lt c = omega (arith, is_sent c, pack_lt 24 (λ i. unpack 24 c.before.args.source i ⊕ c.before.args.q))
 
-mul-result-3 : tie.Need-overflow-mul-result-3
+mul-result-3 : tie.Need-overflow_mul-result-3
 mul-result-3 c = omega (arith, sent_lt c)
 
-add-result-2 : tie.Need-overflow-add-result-2
+add-result-2 : tie.Need-overflow_add-result-2
 add-result-2 c = omega (arith, sent_lt c)
 
 returns : tie.Need-returns

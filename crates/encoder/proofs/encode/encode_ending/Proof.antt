@@ -54,16 +54,16 @@ module _ (p q n a b w : ℕ) (e : w ≡ pack 32 (encode p q (source_of (n - n % 
 returns : tie.Need-returns
 returns c =
     let a = c.before.before.args in
-    c.encode-word2.ensures ∙ ending a.p a.q a.source a.a a.b c.before.encode-word.result c.before.encode-word.ensures
+    c.encode_word.ensures ∙ ending a.p a.q a.source a.a a.b c.before.encode_word-word.result c.before.encode_word-word.ensures
 
 -- the number with its fillers is a u32
 room : (n x y : ℕ) → n < 4294967296 → x < 2 → y < 2 → n - n % 4 + x * 2 + y < 4294967296
 room n x y h hx hy = omega arith
 
-add-encode-word-2 : tie.Need-overflow-add-encode-word-2
+add-encode-word-2 : tie.Need-overflow_add-zeros-2
 add-encode-word-2 c =
     let a = c.before.args in
-    let w = c.encode-word.result in
+    let w = c.encode_word-word.result in
     let y = (w / 2 + a.a % 2) % 2 in
     record { fits = room a.source ((w % 2 + a.b % 2 + y) % 2) y (omega arith) (omega arith) (omega arith) }
 

@@ -7,33 +7,33 @@ use Rattle.record.specs.Kind.{is_almanac, is_utc, is_of_kind}
 use Rattle.kind.proofs.kind.kind_for.Statement.{statement}
 use Rattle.kind.proofs.kind.kind_for.Tie as tie
 
-returns : tie.Need-returns
+returns : tie.Need-returns-then-subframe-eq1
 unfolding is_of_kind
-returns c = eq-eqb _ _ c.if1.true
+returns c = eq-eqb _ _ c.if-subframe-eq1.true
 
-returns-2 : tie.Need-returns-2
+returns-2 : tie.Need-returns-then-subframe-eq2
 unfolding is_of_kind
-returns-2 c = eq-eqb _ _ c.if2.true
+returns-2 c = eq-eqb _ _ c.if-subframe-eq2.true
 
-returns-3 : tie.Need-returns-3
+returns-3 : tie.Need-returns-then-subframe-eq3
 unfolding is_of_kind
-returns-3 c = eq-eqb _ _ c.if3.true
+returns-3 c = eq-eqb _ _ c.if-subframe-eq3.true
 
-returns-4 : tie.Need-returns-4
+returns-4 : tie.Need-returns-then-is_almanac
 unfolding is_of_kind
-returns-4 c = sym c.before.is-almanac.ensures ∙ c.if4.true
+returns-4 c = sym c.before.is_almanac.ensures ∙ c.if-is_almanac.true
 
-returns-5 : tie.Need-returns-5
+returns-5 : tie.Need-returns-then-is_utc
 unfolding is_of_kind
-returns-5 c = sym c.before.is-utc.ensures ∙ c.if5.true
+returns-5 c = sym c.before.is_utc.ensures ∙ c.if-is_utc.true
 
-returns-6 : tie.Need-returns-6
+returns-6 : tie.Need-returns
 unfolding is_of_kind
 returns-6 c =
     let d = c.before.before.before.before in
-    let almanac : is_almanac _ _ _ ≡ false = sym c.before.before.before.is-almanac.ensures ∙ c.before.before.if4.false in
-    let utc : is_utc _ _ _ ≡ false = sym c.before.is-utc.ensures ∙ c.if5.false in
-    rw (ne_eqb _ _ d.before.before.if1.false, ne_eqb _ _ d.before.if2.false, ne_eqb _ _ d.if3.false, almanac, utc)
+    let almanac : is_almanac _ _ _ ≡ false = sym c.before.before.before.is_almanac.ensures ∙ c.before.before.if-is_almanac.false in
+    let utc : is_utc _ _ _ ≡ false = sym c.before.is_utc.ensures ∙ c.if-is_utc.false in
+    rw (ne_eqb _ _ d.before.before.if-subframe-eq1.false, ne_eqb _ _ d.before.if-subframe-eq2.false, ne_eqb _ _ d.if-subframe-eq3.false, almanac, utc)
 
 pub kind_for_spec : {M : Type 1} → statement M
 kind_for_spec =

@@ -5,29 +5,29 @@ use Rattle.record.specs.Writable.{of_its_kind}
 use Rattle.kind.proofs.kind.of_its_kind.Statement.{statement}
 use Rattle.kind.proofs.kind.of_its_kind.Tie as tie
 
-returns : tie.Need-returns
+returns : tie.Need-returns-in-Subframe1
 unfolding of_its_kind
 returns c = sym (ap of_its_kind c.before.before.r.given.1)
 
-returns-2 : tie.Need-returns-2
+returns-2 : tie.Need-returns-in-Subframe2
 unfolding of_its_kind
-returns-2 c = sym (ap of_its_kind c.before.before.r2.given.1)
+returns-2 c = sym (ap of_its_kind c.before.before.r-in-Subframe2-1.given.1)
 
-returns-3 : tie.Need-returns-3
+returns-3 : tie.Need-returns-in-Subframe3
 unfolding of_its_kind
-returns-3 c = sym (ap of_its_kind c.before.before.r3.given.1)
+returns-3 c = sym (ap of_its_kind c.before.before.r-in-Subframe3-1.given.1)
 
-returns-4 : tie.Need-returns-4
+returns-4 : tie.Need-returns-in-Almanac
 unfolding of_its_kind
-returns-4 c = c.is-almanac.ensures ∙ sym (ap of_its_kind c.before.before.r4.given.1)
+returns-4 c = c.is_almanac.ensures ∙ sym (ap of_its_kind c.before.before.r-in-Almanac-1.given.1)
 
-returns-5 : tie.Need-returns-5
+returns-5 : tie.Need-returns-in-Utc
 unfolding of_its_kind
-returns-5 c = c.is-utc.ensures ∙ sym (ap of_its_kind c.before.before.r5.given.1)
+returns-5 c = c.is_utc.ensures ∙ sym (ap of_its_kind c.before.before.r-in-Utc-1.given.1)
 
-returns-6 : tie.Need-returns-6
+returns-6 : tie.Need-returns-in-Other
 unfolding of_its_kind
-returns-6 c = c.is-other.ensures ∙ sym (ap of_its_kind c.before.before.r6.given.1)
+returns-6 c = c.is_other.ensures ∙ sym (ap of_its_kind c.before.before.r-in-Other-1.given.1)
 
 pub of_its_kind_spec : {M : Type 1} → statement M
 of_its_kind_spec =

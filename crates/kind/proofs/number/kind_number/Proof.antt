@@ -5,29 +5,29 @@ use Rattle.kind.specs.Number.{kind_number}
 use Rattle.kind.proofs.number.kind_number.Statement.{statement}
 use Rattle.kind.proofs.number.kind_number.Tie as tie
 
-returns : tie.Need-returns
+returns : tie.Need-returns-in-Subframe1
 unfolding kind_number
 returns c = sym (ap kind_number c.enum_told.given.1)
 
-returns-2 : tie.Need-returns-2
+returns-2 : tie.Need-returns-in-Subframe2
 unfolding kind_number
-returns-2 c = sym (ap kind_number c.enum-told2.given.1)
+returns-2 c = sym (ap kind_number c.enum_told-in-Subframe2-1.given.1)
 
-returns-3 : tie.Need-returns-3
+returns-3 : tie.Need-returns-in-Subframe3
 unfolding kind_number
-returns-3 c = sym (ap kind_number c.enum-told3.given.1)
+returns-3 c = sym (ap kind_number c.enum_told-in-Subframe3-1.given.1)
 
-returns-4 : tie.Need-returns-4
+returns-4 : tie.Need-returns-in-Almanac
 unfolding kind_number
-returns-4 c = sym (ap kind_number c.enum-told4.given.1)
+returns-4 c = sym (ap kind_number c.enum_told-in-Almanac-1.given.1)
 
-returns-5 : tie.Need-returns-5
+returns-5 : tie.Need-returns-in-Utc
 unfolding kind_number
-returns-5 c = sym (ap kind_number c.enum-told5.given.1)
+returns-5 c = sym (ap kind_number c.enum_told-in-Utc-1.given.1)
 
-returns-6 : tie.Need-returns-6
+returns-6 : tie.Need-returns-in-Other
 unfolding kind_number
-returns-6 c = sym (ap kind_number c.enum-told6.given.1)
+returns-6 c = sym (ap kind_number c.enum_told-in-Other-1.given.1)
 
 pub kind_number_spec : {M : Type 1} → statement M
 kind_number_spec =

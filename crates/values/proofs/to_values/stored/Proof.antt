@@ -20,28 +20,28 @@ one_stored l v at i h e =
     let place : at + (i + 1) ≡ suc (at + i) = omega arith in
     (λ j. sets (set v (at + i) (e j)) (place j) (drop (next j) l)) ∙ ap (sets v (at + i)) (sym (drop-cons l i (pos 0) h))
 
-abbrev invariant-loop : tie.invariant-loop
-invariant-loop at values v₀ i₀ v i = (i ≤ length values) × (sets v (at + i) (drop i values) ≡ sets v₀ at values)
+abbrev invariant-loop-i : tie.invariant-loop-i
+invariant-loop-i at values v₀ i₀ v i = (i ≤ length values) × (sets v (at + i) (drop i values) ≡ sets v₀ at values)
 
-abbrev decreases-loop : tie.decreases-loop
-decreases-loop at values v₀ i₀ v i = length values - i
+abbrev decreases-loop-i : tie.decreases-loop-i
+decreases-loop-i at values v₀ i₀ v i = length values - i
 
-loop-holds : tie.Need-loop-init invariant-loop decreases-loop
+loop-holds : tie.Need-loop-i-init invariant-loop-i decreases-loop-i
 loop-holds c = (omega arith, ap (λ (k : ℕ). sets c.args.before k c.args.values.now) (add-zero c.args.at))
 
-loop-again : tie.Need-loop-preserved invariant-loop decreases-loop
+loop-again : tie.Need-loop-i-preserved invariant-loop-i decreases-loop-i
 loop-again c =
     let at = c.before.before in
     let a = at.before.args in
-    (omega arith, one_stored a.values.now at.loop.v a.at at.loop.i (omega arith) (as_is w64 _ c.v.given) ∙ at.loop.invariant.1)
+    (omega arith, one_stored a.values.now at.loop-i.v a.at at.loop-i.i (omega arith) (as_is w64 _ c.v.given) ∙ at.loop-i.invariant.1)
 
-returns : tie.Need-returns invariant-loop decreases-loop
+returns : tie.Need-returns invariant-loop-i decreases-loop-i
 returns c =
     let at = c.before in
     let a = at.before.args in
-    ap (sets at.loop.v (a.at + at.loop.i)) (sym (drop_of_length-le a.values.now {i = at.loop.i} (omega arith))) ∙ at.loop.invariant.1
+    ap (sets at.loop-i.v (a.at + at.loop-i.i)) (sym (drop_of_length-le a.values.now {i = at.loop-i.i} (omega arith))) ∙ at.loop-i.invariant.1
 
 pub stored_spec : {M : Type 1} → statement M
 stored_spec =
     tie.close
-    (tie.spec invariant-loop decreases-loop loop-holds (λ c. search rules) (λ c. omega arith) (λ c. omega arith) (λ c. omega arith) (λ c. omega arith) (λ c. omega arith) (λ c. omega arith) loop-again returns)
+    (tie.spec invariant-loop-i decreases-loop-i loop-holds (λ c. search rules) (λ c. omega arith) (λ c. omega arith) (λ c. omega arith) (λ c. omega arith) (λ c. omega arith) (λ c. omega arith) loop-again returns)
