@@ -8,34 +8,34 @@ use Rattle.record.specs.Kind.{is_page, is_almanac}
 use Rattle.kind.proofs.kind.is_almanac.Statement.{statement}
 use Rattle.kind.proofs.kind.is_almanac.Tie as tie
 
-page : (c : tie.Else-not-is_page) → is_page c.before.before.args.subframe ≡ true
-page c = sym c.before.is_page.ensures ∙ not-false _ c.if-not-is_page.false
+page : (c : tie.Else-not-is_page) → is_page c.args.subframe ≡ true
+page c = sym c.is_page.ensures ∙ c.if-not-is_page.false
 
-data_id_1 : (c : tie.Else-data_id-ne1) → eqb c.before.before.before.args.data-id 1 ≡ true
+data_id_1 : (c : tie.Else-data_id-ne1) → eqb c.args.data_id 1 ≡ true
 data_id_1 c = eq-eqb _ _ c.if-data_id-ne1.false
 
 returns : tie.Need-returns-then-not-is_page
 unfolding is_almanac
 returns c =
-    let none : is_page c.before.before.args.subframe ≡ false = sym c.before.is_page.ensures ∙ not-true _ c.if-not-is_page.true in
+    let none : is_page c.args.subframe ≡ false = sym c.is_page.ensures ∙ c.if-not-is_page.true in
     rw none
 
 returns-2 : tie.Need-returns-then-data_id-ne1
 unfolding is_almanac
 returns-2 c =
-    let other : eqb c.before.before.before.args.data-id 1 ≡ false = ne_eqb _ _ c.if-data_id-ne1.true in
+    let other : eqb c.args.data_id 1 ≡ false = ne_eqb _ _ c.if-data_id-ne1.true in
     rw (page c.before, other)
 
 returns-3 : tie.Need-returns-then-id-lt1
 unfolding is_almanac
 returns-3 c =
-    let low : leb 1 c.before.before.before.before.args.id ≡ false = lt-leb _ _ c.if-id-lt1.true in
+    let low : leb 1 c.args.id ≡ false = lt-leb _ _ c.if-id-lt1.true in
     rw (page c.before.before, data_id_1 c.before, low)
 
 returns-4 : tie.Need-returns
 unfolding is_almanac
 returns-4 c =
-    let a = c.before.before.before.before.args in
+    let a = c.args in
     let from-1 : leb 1 a.id ≡ true = le-leb _ _ c.if-id-lt1.false in
     let to-32 : is_almanac a.subframe a.data_id a.id ≡ leb a.id 32 = rw (page c.before.before, data_id_1 c.before, from-1) in
     sym to-32

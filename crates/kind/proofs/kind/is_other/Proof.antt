@@ -7,27 +7,27 @@ use Rattle.record.specs.Kind.{is_page, is_almanac, is_utc, is_other}
 use Rattle.kind.proofs.kind.is_other.Statement.{statement}
 use Rattle.kind.proofs.kind.is_other.Tie as tie
 
-page : (c : tie.Else-not-is_page) → is_page c.before.before.args.subframe ≡ true
-page c = sym c.before.is_page.ensures ∙ not-false _ c.if-not-is_page.false
+page : (c : tie.Else-not-is_page) → is_page c.args.subframe ≡ true
+page c = sym c.is_page.ensures ∙ c.if-not-is_page.false
 
 returns : tie.Need-returns-then-not-is_page
 unfolding is_other
 returns c =
-    let none : is_page c.before.before.args.subframe ≡ false = sym c.before.is_page.ensures ∙ not-true _ c.if-not-is_page.true in
+    let none : is_page c.args.subframe ≡ false = sym c.is_page.ensures ∙ c.if-not-is_page.true in
     rw none
 
 returns-2 : tie.Need-returns-then-is_almanac
 unfolding is_other
 returns-2 c =
-    let a = c.before.before.before.before.args in
-    let almanac : is_almanac a.subframe a.data_id a.id ≡ true = sym c.before.is_almanac.ensures ∙ c.if-is_almanac.true in
+    let a = c.args in
+    let almanac : is_almanac a.subframe a.data_id a.id ≡ true = sym c.is_almanac.ensures ∙ c.if-is_almanac.true in
     rw (page c.before.before, almanac)
 
 returns-3 : tie.Need-returns
 unfolding is_other
 returns-3 c =
-    let a = c.before.before.before.before.before.args in
-    let almanac : is_almanac a.subframe a.data_id a.id ≡ false = sym c.before.before.is_almanac.ensures ∙ c.before.if-is_almanac.false in
+    let a = c.args in
+    let almanac : is_almanac a.subframe a.data_id a.id ≡ false = sym c.is_almanac.ensures ∙ c.if-is_almanac.false in
     let is : is_other a.subframe a.data_id a.id ≡ not (is_utc a.subframe a.data_id a.id) = rw (page c.before.before.before, almanac) in
     ap not c.is_utc.ensures ∙ sym is
 

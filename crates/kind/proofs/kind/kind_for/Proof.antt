@@ -21,19 +21,18 @@ returns-3 c = eq-eqb _ _ c.if-subframe-eq3.true
 
 returns-4 : tie.Need-returns-then-is_almanac
 unfolding is_of_kind
-returns-4 c = sym c.before.is_almanac.ensures ∙ c.if-is_almanac.true
+returns-4 c = sym c.is_almanac.ensures ∙ c.if-is_almanac.true
 
 returns-5 : tie.Need-returns-then-is_utc
 unfolding is_of_kind
-returns-5 c = sym c.before.is_utc.ensures ∙ c.if-is_utc.true
+returns-5 c = sym c.is_utc.ensures ∙ c.if-is_utc.true
 
 returns-6 : tie.Need-returns
 unfolding is_of_kind
 returns-6 c =
-    let d = c.before.before.before.before in
-    let almanac : is_almanac _ _ _ ≡ false = sym c.before.before.before.is_almanac.ensures ∙ c.before.before.if-is_almanac.false in
-    let utc : is_utc _ _ _ ≡ false = sym c.before.is_utc.ensures ∙ c.if-is_utc.false in
-    rw (ne_eqb _ _ d.before.before.if-subframe-eq1.false, ne_eqb _ _ d.before.if-subframe-eq2.false, ne_eqb _ _ d.if-subframe-eq3.false, almanac, utc)
+    let almanac : is_almanac _ _ _ ≡ false = sym c.is_almanac.ensures ∙ c.if-is_almanac.false in
+    let utc : is_utc _ _ _ ≡ false = sym c.is_utc.ensures ∙ c.if-is_utc.false in
+    rw (ne_eqb _ _ c.if-subframe-eq1.false, ne_eqb _ _ c.if-subframe-eq2.false, ne_eqb _ _ c.if-subframe-eq3.false, almanac, utc)
 
 pub kind_for_spec : {M : Type 1} → statement M
 kind_for_spec =

@@ -6,22 +6,22 @@ use Rattle.kind.proofs.kind.kind_of.Statement.{statement}
 use Rattle.kind.proofs.kind.kind_of.Tie as tie
 
 returns : tie.Need-returns-in-Subframe1
-returns c = sym (ap kind_of c.enum_told.given.1)
+returns c = sym (ap kind_of c.in-Subframe1.is)
 
 returns-2 : tie.Need-returns-in-Subframe2
-returns-2 c = sym (ap kind_of c.enum_told-in-Subframe2-1.given.1)
+returns-2 c = sym (ap kind_of c.in-Subframe2.is)
 
 returns-3 : tie.Need-returns-in-Subframe3
-returns-3 c = sym (ap kind_of c.enum_told-in-Subframe3-1.given.1)
+returns-3 c = sym (ap kind_of c.in-Subframe3.is)
 
 returns-4 : tie.Need-returns-in-Almanac
-returns-4 c = sym (ap kind_of c.enum_told-in-Almanac-1.given.1)
+returns-4 c = sym (ap kind_of c.in-Almanac.is)
 
 returns-5 : tie.Need-returns-in-Utc
-returns-5 c = sym (ap kind_of c.enum_told-in-Utc-1.given.1)
+returns-5 c = sym (ap kind_of c.in-Utc.is)
 
 returns-6 : tie.Need-returns-in-Other
-returns-6 c = sym (ap kind_of c.enum_told-in-Other-1.given.1)
+returns-6 c = sym (ap kind_of c.in-Other.is)
 
 pub kind_of_spec : {M : Type 1} → statement M
 kind_of_spec =

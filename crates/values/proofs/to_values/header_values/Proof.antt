@@ -10,8 +10,7 @@ use Rattle.values.proofs.to_values.header_values.Tie as tie
 returns : tie.Need-returns
 unfolding padded values_of_header
 returns c =
-    let c6 = c.before.before in let c5 = c6.before in let c4 = c5.before in let c3 = c4.before in let c2 = c3.before in let c1 = c2.before in
-    c.stored.ensures ∙ (λ i. as_held c1.natural.ensures i ∷ as_held c2.natural2.ensures i ∷ as_held c3.natural3.ensures i ∷ as_held c4.natural4.ensures i ∷ as_held c5.natural5.ensures i ∷ as_held c6.natural6.ensures i ∷ padded 19 [])
+    c.stored.ensures ∙ (λ i. as_held c.natural.ensures i ∷ as_held c.natural-2.ensures i ∷ as_held c.natural-3.ensures i ∷ as_held c.natural-4.ensures i ∷ as_held c.natural-5.ensures i ∷ as_held c.natural-6.ensures i ∷ padded 19 [])
 
 pub header_values_spec : {M : Type 1} → statement M
 header_values_spec =

@@ -31,15 +31,13 @@ loop-holds c = (omega arith, ap (λ (k : ℕ). sets c.args.before k c.args.value
 
 loop-again : tie.Need-loop-i-preserved invariant-loop-i decreases-loop-i
 loop-again c =
-    let at = c.before.before in
-    let a = at.before.args in
-    (omega arith, one_stored a.values.now at.loop-i.v a.at at.loop-i.i (omega arith) (as_is w64 _ c.v.given) ∙ at.loop-i.invariant.1)
+    let a = c.args in
+    (omega arith, one_stored a.values.now c.loop-i.v a.at c.loop-i.i (omega arith) (as_is w64 _ c.v-1.given) ∙ c.loop-i.invariant.1)
 
 returns : tie.Need-returns invariant-loop-i decreases-loop-i
 returns c =
-    let at = c.before in
-    let a = at.before.args in
-    ap (sets at.loop-i.v (a.at + at.loop-i.i)) (sym (drop_of_length-le a.values.now {i = at.loop-i.i} (omega arith))) ∙ at.loop-i.invariant.1
+    let a = c.args in
+    ap (sets c.loop-i.v (a.at + c.loop-i.i)) (sym (drop_of_length-le a.values.now {i = c.loop-i.i} (omega arith))) ∙ c.loop-i.invariant.1
 
 pub stored_spec : {M : Type 1} → statement M
 stored_spec =

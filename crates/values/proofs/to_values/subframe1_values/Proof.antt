@@ -13,10 +13,9 @@ use Rattle.values.proofs.to_values.subframe1_values.Tie as tie
 returns : tie.Need-returns
 unfolding padded values_of_header values_of_subframe1
 returns c =
-    let c16 = c.before.before.before in let c15 = c16.before.before in let c14 = c15.before.before in let c13 = c14.before.before in let c12 = c13.before in let c11 = c12.before in let c10 = c11.before.before in let c9 = c10.before in let c8 = c9.before in let c7 = c8.before in let c6 = c7.before in let c5 = c6.before in let c4 = c5.before in let c3 = c4.before in let c2 = c3.before in let c1 = c2.before in
-    let r = c1.before.args.r in
-    let known = c11.before.struct_told.given in
-    ◌∙◌ {c = values_of_subframe1 r} c.stored.ensures (λ i. sets (c.before.before.header_values.ensures i) 6 (as_held c1.natural.ensures i ∷ as_held c2.natural2.ensures i ∷ as_held c3.natural3.ensures i ∷ as_held c4.natural4.ensures i ∷ as_held c5.natural5.ensures i ∷ as_held c6.natural6.ensures i ∷ as_held c7.natural7.ensures i ∷ as_held c8.natural8.ensures i ∷ as_held c9.natural9.ensures i ∷ as_held c10.natural10.ensures i ∷ whole-value r.tgd c11.whole.ensures known.1.1.1.1.1.1.1.1.1.1.1.0.1 i ∷ as_held c12.natural11.ensures i ∷ as_held c13.natural12.ensures i ∷ whole-value r.af2 c14.whole2.ensures known.1.1.1.1.1.1.1.1.1.1.1.1.1.1.0.1 i ∷ whole-value r.af1 c15.whole3.ensures known.1.1.1.1.1.1.1.1.1.1.1.1.1.1.1.0.1 i ∷ whole-value r.af0 c16.whole4.ensures known.1.1.1.1.1.1.1.1.1.1.1.1.1.1.1.1.0.1 i ∷ []))
+    let r = c.args.r in
+    let known = c.struct_told-1.given in
+    ◌∙◌ {c = values_of_subframe1 r} c.stored.ensures (λ i. sets (c.header_values.ensures i) 6 (as_held c.natural.ensures i ∷ as_held c.natural-2.ensures i ∷ as_held c.natural-3.ensures i ∷ as_held c.natural-4.ensures i ∷ as_held c.natural-5.ensures i ∷ as_held c.natural-6.ensures i ∷ as_held c.natural-7.ensures i ∷ as_held c.natural-8.ensures i ∷ as_held c.natural-9.ensures i ∷ as_held c.natural-10.ensures i ∷ whole-value r.tgd c.whole.ensures known.1.1.1.1.1.1.1.1.1.1.1.0.1 i ∷ as_held c.natural-11.ensures i ∷ as_held c.natural-12.ensures i ∷ whole-value r.af2 c.whole-2.ensures known.1.1.1.1.1.1.1.1.1.1.1.1.1.1.0.1 i ∷ whole-value r.af1 c.whole-3.ensures known.1.1.1.1.1.1.1.1.1.1.1.1.1.1.1.0.1 i ∷ whole-value r.af0 c.whole-4.ensures known.1.1.1.1.1.1.1.1.1.1.1.1.1.1.1.1.0.1 i ∷ []))
 
 pub subframe1_values_spec : {M : Type 1} → statement M
 subframe1_values_spec =
