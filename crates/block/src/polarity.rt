@@ -3,7 +3,7 @@ ghost use Rattle.std.specs.Prelude.{◌≡◌, ◌%◌};
 ghost use Rattle.bits.specs.Bits.{bits_at};
 ghost use Rattle.block.specs.Polarity.{start_bit};
 
-#[derive(Drop)]
+#[derive(Clone, Copy)]
 pub enum Polarity {
     Upright,
     Inverted,

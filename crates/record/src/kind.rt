@@ -1,5 +1,5 @@
 // The kinds of record.
-#[derive(Drop)]
+#[derive(Clone, Copy)]
 pub enum Kind {
     Subframe1,
     Subframe2,

@@ -3,7 +3,7 @@
 // a scale, the value of 1 in it with its unit. A field that the message reserves is named for its word.
 
 // Words 1 and 2 after the preamble.
-#[derive(Drop)]
+#[derive(Clone, Copy)]
 pub struct Header {
     pub message: u32, // 14 bits
     pub reserved: u32, // 2 bits
@@ -14,7 +14,7 @@ pub struct Header {
 }
 
 // Subframe 1: week, health and clock.
-#[derive(Drop)]
+#[derive(Clone, Copy)]
 pub struct Subframe1 {
     pub header: Header,
     pub week: u32, // 10 bits
@@ -36,7 +36,7 @@ pub struct Subframe1 {
 }
 
 // Subframe 2: the first half of the ephemeris.
-#[derive(Drop)]
+#[derive(Clone, Copy)]
 pub struct Subframe2 {
     pub header: Header,
     pub iode: u32, // 8 bits
@@ -53,7 +53,7 @@ pub struct Subframe2 {
 }
 
 // Subframe 3: the second half of the ephemeris.
-#[derive(Drop)]
+#[derive(Clone, Copy)]
 pub struct Subframe3 {
     pub header: Header,
     pub cic: i32, // 16 bits signed, 2^-29 rad
@@ -68,7 +68,7 @@ pub struct Subframe3 {
 }
 
 // An almanac page. The message has af0 in two parts, before and after af1; here it is one value.
-#[derive(Drop)]
+#[derive(Clone, Copy)]
 pub struct AlmanacPage {
     pub header: Header,
     pub data_id: u32, // 2 bits
@@ -87,7 +87,7 @@ pub struct AlmanacPage {
 }
 
 // The UTC page, with the ionospheric terms.
-#[derive(Drop)]
+#[derive(Clone, Copy)]
 pub struct UtcPage {
     pub header: Header,
     pub data_id: u32, // 2 bits
@@ -112,7 +112,7 @@ pub struct UtcPage {
 }
 
 // Each other page of subframes 4 and 5.
-#[derive(Drop)]
+#[derive(Clone, Copy)]
 pub struct OtherPage {
     pub header: Header,
     pub data_id: u32, // 2 bits
@@ -127,7 +127,7 @@ pub struct OtherPage {
     pub reserved10: u32, // 22 bits
 }
 
-#[derive(Drop)]
+#[derive(Clone, Copy)]
 pub enum Record {
     Subframe1(Subframe1),
     Subframe2(Subframe2),

@@ -10,7 +10,7 @@ use Rattle.header.proofs.header_numbers.Tie as tie
 
 returns : tie.Need-returns
 unfolding numbers
-returns c = ap (λ (h : Header). numbers 19 header_fields (header_values h)) c.header_of.ensures
+returns c = ap (λ (h : Header). numbers 19 header_fields (header_values h)) c.header_of-h.ensures
 
 pub header_numbers_spec : {M : Type 1} → statement M
 header_numbers_spec = tie.close (tie.spec (λ c κs. search rules) returns)

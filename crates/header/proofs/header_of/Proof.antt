@@ -5,23 +5,23 @@ use Rattle.record.specs.Record.{header}
 use Rattle.header.proofs.header_of.Statement.{statement}
 use Rattle.header.proofs.header_of.Tie as tie
 
-returns : tie.Need-returns
-returns c = sym (ap header c.before.before.r.given.1)
+returns : tie.Need-returns-in-Subframe1
+returns c = sym (ap header c.in-Subframe1.is)
 
-returns-2 : tie.Need-returns-2
-returns-2 c = sym (ap header c.before.before.r2.given.1)
+returns-2 : tie.Need-returns-in-Subframe2
+returns-2 c = sym (ap header c.in-Subframe2.is)
 
-returns-3 : tie.Need-returns-3
-returns-3 c = sym (ap header c.before.before.r3.given.1)
+returns-3 : tie.Need-returns-in-Subframe3
+returns-3 c = sym (ap header c.in-Subframe3.is)
 
-returns-4 : tie.Need-returns-4
-returns-4 c = sym (ap header c.before.before.r4.given.1)
+returns-4 : tie.Need-returns-in-Almanac
+returns-4 c = sym (ap header c.in-Almanac.is)
 
-returns-5 : tie.Need-returns-5
-returns-5 c = sym (ap header c.before.before.r5.given.1)
+returns-5 : tie.Need-returns-in-Utc
+returns-5 c = sym (ap header c.in-Utc.is)
 
-returns-6 : tie.Need-returns-6
-returns-6 c = sym (ap header c.before.before.r6.given.1)
+returns-6 : tie.Need-returns-in-Other
+returns-6 c = sym (ap header c.in-Other.is)
 
 pub header_of_spec : {M : Type 1} → statement M
 header_of_spec =

@@ -38,13 +38,8 @@ module _ (r : Record) {m0 m1 m2 m3 m4 m5 : List ℕ} {a b c d e : ℕ} where
 
 returns : tie.Need-returns
 returns c =
-    let fifth = c.before in
-    let fourth = fifth.before.before.before in
-    let third = fourth.before.before.before in
-    let second = third.before.before.before in
-    let first = second.before.before.before in
-    whole first.before.before.args.r refl first.put-bits.ensures second.put-header.ensures third.put-bits2.ensures fourth.put-fields.ensures
-    fifth.put-bits3.ensures
+    whole c.args.r refl c.put_bits-header.ensures c.put_header-fillers.ensures c.put_bits-word_3.ensures c.put_fields-last.ensures
+    c.put_bits.ensures
 
 pub message_of_spec : {M : Type 1} → statement M
 message_of_spec =

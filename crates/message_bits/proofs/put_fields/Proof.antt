@@ -11,18 +11,18 @@ use Rattle.message_bits.proofs.Table.{table_put}
 use Rattle.message_bits.proofs.put_fields.Statement.{statement}
 use Rattle.message_bits.proofs.put_fields.Tie as tie
 
-table : (c : tie.After-widths) → c.widths.result ≡ widths 19 (fields_of (kind_of c.before.before.before.before.args.r))
-table c = c.widths.ensures ∙ ap (λ (k : Kind). widths 19 (fields_of k)) c.before.kind-of.ensures
+table : (c : tie.After-widths) → c.widths.result ≡ widths 19 (fields_of (kind_of c.args.r))
+table c = c.widths.ensures ∙ ap (λ (k : Kind). widths 19 (fields_of k)) c.kind_of.ensures
 
 returns : tie.Need-returns
 unfolding record_bits
 returns c =
-    let numbers = c.before.before.before.field-numbers in
+    let numbers = c.field_numbers in
     let at = c.before.before.before.before in
-    let r = at.before.before.before.before.args.r in
+    let r = at.args.r in
     let k = kind_of r in
     table_put 190 (fields_of k) (fields_sound k) at.widths.result (table at) (field_values r) numbers.result numbers.ensures
-    c.before.before.put-numbers.ensures
+    c.put_numbers.ensures
 
 pub put_fields_spec : {M : Type 1} → statement M
 put_fields_spec =

@@ -11,11 +11,11 @@ use Rattle.message_bits.proofs.put_header.Tie as tie
 returns : tie.Need-returns
 unfolding header_bits
 returns c =
-    let numbers = c.before.before.before.header-numbers in
-    let table = c.before.before.before.before.header-widths in
-    let r = c.before.before.before.before.before.before.before.args.r in
+    let numbers = c.header_numbers in
+    let table = c.header_widths in
+    let r = c.args.r in
     table_put 38 header_fields header_sound table.result table.ensures (header_values (header r)) numbers.result numbers.ensures
-    c.before.before.put-numbers.ensures
+    c.put_numbers.ensures
 
 pub put_header_spec : {M : Type 1} → statement M
 put_header_spec =

@@ -13,39 +13,36 @@ use Rattle.layout.specs.laws.Table.{offset_more}
 use Rattle.message_bits.proofs.put_numbers.Statement.{statement}
 use Rattle.message_bits.proofs.put_numbers.Tie as tie
 
-abbrev invariant-loop : tie.invariant-loop
-invariant-loop bytes₀ at widths n next₀ i₀ bytes next i =
+abbrev invariant-loop-i : tie.invariant-loop-i
+invariant-loop-i bytes₀ at widths n next₀ i₀ bytes next i =
     (i ≤ 19) × (length bytes ≡ length bytes₀) × ((u : Bits) → StandIn 19 widths n u → Put bytes₀ at (tabulate (offset widths i) u) bytes next)
 
-abbrev decreases-loop : tie.decreases-loop
-decreases-loop bytes₀ at widths n next₀ i₀ bytes next i = 19 - i
+abbrev decreases-loop-i : tie.decreases-loop-i
+decreases-loop-i bytes₀ at widths n next₀ i₀ bytes next i = 19 - i
 
-loop-holds : tie.Need-loop-init invariant-loop decreases-loop
+loop-holds : tie.Need-loop-i-init invariant-loop-i decreases-loop-i
 unfolding offset tabulate
 loop-holds c = (omega arith, refl, λ u stand. put_none _ _)
 
-loop-again : tie.Need-loop-preserved invariant-loop decreases-loop
+loop-again : tie.Need-loop-i-preserved invariant-loop-i decreases-loop-i
 loop-again c =
-    let put = c.before.before in
-    let l = put.before.before.before in
-    let a = l.before.before.args in
-    let width = get_or a.t3 l.loop.i 0 in (
+    let a = c.args in
+    let width = get_or a.t3 c.loop-i.i 0 in (
       omega arith,
-      put_length put.put-bits.ensures ∙ l.loop.invariant.1,
+      put_length c.put_bits-next.ensures ∙ c.loop-i.invariant.1,
       λ u stand.
           put_same
-          (put_run (offset a.t3 l.loop.i) width u (unpack width (get_or a.t4 l.loop.i 0)) (l.loop.invariant.2 u stand) put.put-bits.ensures
-          (λ j h. sym (stand l.loop.i (omega arith) j h)))
-          (ap (λ (k : ℕ). tabulate k u) (sym (offset_more a.t3 l.loop.i))),
+          (put_run (offset a.t3 c.loop-i.i) width u (unpack width (get_or a.t4 c.loop-i.i 0)) (c.loop-i.invariant.2 u stand) c.put_bits-next.ensures
+          (λ j h. sym (stand c.loop-i.i (omega arith) j h)))
+          (ap (λ (k : ℕ). tabulate k u) (sym (offset_more a.t3 c.loop-i.i))),
     )
 
-returns : tie.Need-returns invariant-loop decreases-loop
+returns : tie.Need-returns invariant-loop-i decreases-loop-i
 returns c u stand =
-    let l = c.before in
-    let all : l.loop.i ≡ 19 = omega arith in
-    put_same (l.loop.invariant.2 u stand) (ap (λ (k : ℕ). tabulate (offset l.before.before.args.t3 k) u) all)
+    let all : c.loop-i.i ≡ 19 = omega arith in
+    put_same (c.loop-i.invariant.2 u stand) (ap (λ (k : ℕ). tabulate (offset c.args.t3 k) u) all)
 
 pub put_numbers_spec : {M : Type 1} → statement M
 put_numbers_spec =
     tie.close
-    (tie.spec invariant-loop decreases-loop loop-holds (λ c. omega arith) (λ c. omega arith) (λ c. omega arith) (λ c. omega arith) (λ c κs. tt) (λ c. omega arith) (λ c. omega arith) loop-again (λ c. c.before.loop.invariant.1) returns)
+    (tie.spec invariant-loop-i decreases-loop-i loop-holds (λ c. omega arith) (λ c. omega arith) (λ c. omega arith) (λ c. omega arith) (λ c κs. tt) (λ c. omega arith) (λ c. omega arith) loop-again (λ c. c.loop-i.invariant.1) returns)

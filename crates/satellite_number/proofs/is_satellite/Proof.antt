@@ -7,11 +7,11 @@ use Rattle.satellite_number.proofs.is_satellite.Tie as tie
 
 returns : tie.Need-returns-then-n-lt1
 unfolding is_satellite
-returns c = sym (rw (lt-leb 1 c.before.args.n c.if-n-lt1.true))
+returns c = sym (rw (lt-leb 1 c.args.n c.if-n-lt1.true))
 
 returns-2 : tie.Need-returns
 unfolding is_satellite
-returns-2 c = sym (rw (le-leb 1 c.before.args.n c.if-n-lt1.false))
+returns-2 c = sym (rw (le-leb 1 c.args.n c.if-n-lt1.false))
 
 pub is_satellite_spec : {M : Type 1} → statement M
 is_satellite_spec = tie.close (tie.spec returns returns-2)

@@ -18,23 +18,23 @@ by_kind : (header : Header) (n : List ℕ) (r : Record) {found kind : Kind}
     → r ≡ record_with found header (values_from (fields_of found) 0 n) → kind ≡ found → r ≡ record_with kind header (values_from (fields_of kind) 0 n)
 by_kind header n r e is = e ∙ sym (ap (λ (k : Kind). record_with k header (values_from (fields_of k) 0 n)) is)
 
-returns : tie.Need-returns
-returns c = by_kind _ _ _ (ap R.Subframe1 c.subframe1-from.ensures) c.before.enum_told.given.1
+returns : tie.Need-returns-in-Subframe1
+returns c = by_kind _ _ _ (ap R.Subframe1 c.subframe1_from.ensures) c.in-Subframe1.is
 
-returns-2 : tie.Need-returns-2
-returns-2 c = by_kind _ _ _ (ap R.Subframe2 c.subframe2-from.ensures) c.before.enum-told2.given.1
+returns-2 : tie.Need-returns-in-Subframe2
+returns-2 c = by_kind _ _ _ (ap R.Subframe2 c.subframe2_from.ensures) c.in-Subframe2.is
 
-returns-3 : tie.Need-returns-3
-returns-3 c = by_kind _ _ _ (ap R.Subframe3 c.subframe3-from.ensures) c.before.enum-told3.given.1
+returns-3 : tie.Need-returns-in-Subframe3
+returns-3 c = by_kind _ _ _ (ap R.Subframe3 c.subframe3_from.ensures) c.in-Subframe3.is
 
-returns-4 : tie.Need-returns-4
-returns-4 c = by_kind _ _ _ (ap R.Almanac c.almanac-from.ensures) c.before.enum-told4.given.1
+returns-4 : tie.Need-returns-in-Almanac
+returns-4 c = by_kind _ _ _ (ap R.Almanac c.almanac_from.ensures) c.in-Almanac.is
 
-returns-5 : tie.Need-returns-5
-returns-5 c = by_kind _ _ _ (ap R.Utc c.utc-from.ensures) c.before.enum-told5.given.1
+returns-5 : tie.Need-returns-in-Utc
+returns-5 c = by_kind _ _ _ (ap R.Utc c.utc_from.ensures) c.in-Utc.is
 
-returns-6 : tie.Need-returns-6
-returns-6 c = by_kind _ _ _ (ap R.Other c.other_from.ensures) c.before.enum-told6.given.1
+returns-6 : tie.Need-returns-in-Other
+returns-6 c = by_kind _ _ _ (ap R.Other c.other_from.ensures) c.in-Other.is
 
 pub record_from_spec : {M : Type 1} → statement M
 record_from_spec =

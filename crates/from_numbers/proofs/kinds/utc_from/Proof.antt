@@ -8,29 +8,28 @@ use Rattle.from_numbers.proofs.kinds.utc_from.Tie as tie
 returns : tie.Need-returns
 unfolding values_from
 returns c =
-    let c18 = c.before in let c17 = c18.before in let c16 = c17.before in let c15 = c16.before in let c14 = c15.before in let c13 = c14.before in let c12 = c13.before in let c11 = c12.before in let c10 = c11.before in let c9 = c10.before in let c8 = c9.before in let c7 = c8.before in let c6 = c7.before in let c5 = c6.before in let c4 = c5.before in let c3 = c4.before in let c2 = c3.before in let c1 = c2.before in
-    let a = c1.before.args in
+    let a = c.args in
     λ i. record {
       header = a.header;
-      data_id = c1.unsigned-at.ensures i;
-      id = c2.unsigned-at2.ensures i;
-      alpha0 = as_held c3.signed-at.ensures i;
-      alpha1 = as_held c4.signed-at2.ensures i;
-      alpha2 = as_held c5.signed-at3.ensures i;
-      alpha3 = as_held c6.signed-at4.ensures i;
-      beta0 = as_held c7.signed-at5.ensures i;
-      beta1 = as_held c8.signed-at6.ensures i;
-      beta2 = as_held c9.signed-at7.ensures i;
-      beta3 = as_held c10.signed-at8.ensures i;
-      a1 = as_held c11.signed-at9.ensures i;
-      a0 = as_held c12.signed-at10.ensures i;
-      tot = c13.unsigned-at3.ensures i;
-      wnt = c14.unsigned-at4.ensures i;
-      dtls = as_held c15.signed-at11.ensures i;
-      wnlsf = c16.unsigned-at5.ensures i;
-      dn = c17.unsigned-at6.ensures i;
-      dtlsf = as_held c18.signed-at12.ensures i;
-      reserved10 = c.unsigned-at7.ensures i;
+      data_id = c.unsigned_at.ensures i;
+      id = c.unsigned_at-2.ensures i;
+      alpha0 = as_held c.signed_at.ensures i;
+      alpha1 = as_held c.signed_at-2.ensures i;
+      alpha2 = as_held c.signed_at-3.ensures i;
+      alpha3 = as_held c.signed_at-4.ensures i;
+      beta0 = as_held c.signed_at-5.ensures i;
+      beta1 = as_held c.signed_at-6.ensures i;
+      beta2 = as_held c.signed_at-7.ensures i;
+      beta3 = as_held c.signed_at-8.ensures i;
+      a1 = as_held c.signed_at-9.ensures i;
+      a0 = as_held c.signed_at-10.ensures i;
+      tot = c.unsigned_at-3.ensures i;
+      wnt = c.unsigned_at-4.ensures i;
+      dtls = as_held c.signed_at-11.ensures i;
+      wnlsf = c.unsigned_at-5.ensures i;
+      dn = c.unsigned_at-6.ensures i;
+      dtlsf = as_held c.signed_at-12.ensures i;
+      reserved10 = c.unsigned_at-7.ensures i;
     }
 
 pub utc_from_spec : {M : Type 1} → statement M

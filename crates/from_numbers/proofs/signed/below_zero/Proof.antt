@@ -13,7 +13,7 @@ use Rattle.from_numbers.proofs.signed.below_zero.Tie as tie
 value : (c : tie.Start) → negsuc 0 -ℤ to_z w32 c.args.m ≡ negsuc c.args.m
 value c = ap (λ (z : ℤ). negsuc 0 -ℤ z) (to_z_pos w32 c.args.m c.requires) ∙ minus_pos c.args.m
 
-sub-result : tie.Need-overflow-sub-result
+sub-result : tie.Need-overflow_sub-result
 sub-result c = rw (value c) (record { sfits = c.requires })
 
 returns : tie.Need-returns

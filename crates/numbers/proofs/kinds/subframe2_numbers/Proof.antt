@@ -12,18 +12,17 @@ use Rattle.numbers.proofs.kinds.subframe2_numbers.Tie as tie
 returns : tie.Need-returns
 unfolding numbers
 returns c =
-    let c4 = c.before.before in let c3 = c4.before.before in let c2 = c3.before.before in let c1 = c2.before.before in
-    let r = c1.before.before.args.r in
-    let at-crs = c1.before.struct_told.given.1.1 in
+    let r = c.args.r in
+    let at-crs = c.struct_told-1.given.1.1 in
     let at-delta-n = at-crs.1 in
     let at-m0 = at-delta-n.1 in
     let at-cuc = at-m0.1 in
     let at-cus = at-cuc.1.1 in
-    let crs = of_handed w32 (unsigned 16) r.crs c1.Unsigned-of.ensures at-crs.0.1 in
-    let delta-n = of_handed w32 (unsigned 16) r.delta_n c2.unsigned-of2.ensures at-delta-n.0.1 in
-    let m0 = of_handed w32 (unsigned 32) r.m0 c3.unsigned-of3.ensures at-m0.0.1 in
-    let cuc = of_handed w32 (unsigned 16) r.cuc c4.unsigned-of4.ensures at-cuc.0.1 in
-    let cus = of_handed w32 (unsigned 16) r.cus c.unsigned-of5.ensures at-cus.0.1 in
+    let crs = of_handed w32 (unsigned 16) r.crs c.unsigned_of.ensures at-crs.0.1 in
+    let delta-n = of_handed w32 (unsigned 16) r.delta_n c.unsigned_of-2.ensures at-delta-n.0.1 in
+    let m0 = of_handed w32 (unsigned 32) r.m0 c.unsigned_of-3.ensures at-m0.0.1 in
+    let cuc = of_handed w32 (unsigned 16) r.cuc c.unsigned_of-4.ensures at-cuc.0.1 in
+    let cus = of_handed w32 (unsigned 16) r.cus c.unsigned_of-5.ensures at-cus.0.1 in
     λ i. r.iode ∷ crs i ∷ delta-n i ∷ m0 i ∷ cuc i ∷ r.e ∷ cus i ∷ r.root_a ∷ r.toe ∷ r.fit ∷ r.aodo ∷ 0 ∷ 0 ∷ 0 ∷ 0 ∷ 0 ∷ 0 ∷ 0 ∷ 0 ∷ []
 
 pub subframe2_numbers_spec : {M : Type 1} → statement M

@@ -12,9 +12,8 @@ use Rattle.numbers.proofs.kinds.subframe3_numbers.Tie as tie
 returns : tie.Need-returns
 unfolding numbers
 returns c =
-    let c7 = c.before.before in let c6 = c7.before.before in let c5 = c6.before.before in let c4 = c5.before.before in let c3 = c4.before.before in let c2 = c3.before.before in let c1 = c2.before.before in
-    let r = c1.before.before.args.r in
-    let at-cic = c1.before.struct_told.given.1 in
+    let r = c.args.r in
+    let at-cic = c.struct_told-1.given.1 in
     let at-node = at-cic.1 in
     let at-cis = at-node.1 in
     let at-i0 = at-cis.1 in
@@ -22,14 +21,14 @@ returns c =
     let at-perigee = at-crc.1 in
     let at-node-rate = at-perigee.1 in
     let at-idot = at-node-rate.1.1 in
-    let cic = of_handed w32 (unsigned 16) r.cic c1.Unsigned-of.ensures at-cic.0.1 in
-    let node = of_handed w32 (unsigned 32) r.node c2.unsigned-of2.ensures at-node.0.1 in
-    let cis = of_handed w32 (unsigned 16) r.cis c3.unsigned-of3.ensures at-cis.0.1 in
-    let i0 = of_handed w32 (unsigned 32) r.i0 c4.unsigned-of4.ensures at-i0.0.1 in
-    let crc = of_handed w32 (unsigned 16) r.crc c5.unsigned-of5.ensures at-crc.0.1 in
-    let perigee = of_handed w32 (unsigned 32) r.perigee c6.unsigned-of6.ensures at-perigee.0.1 in
-    let node-rate = of_handed w32 (unsigned 24) r.node_rate c7.unsigned-of7.ensures at-node-rate.0.1 in
-    let idot = of_handed w32 (unsigned 14) r.idot c.unsigned-of8.ensures at-idot.0.1 in
+    let cic = of_handed w32 (unsigned 16) r.cic c.unsigned_of.ensures at-cic.0.1 in
+    let node = of_handed w32 (unsigned 32) r.node c.unsigned_of-2.ensures at-node.0.1 in
+    let cis = of_handed w32 (unsigned 16) r.cis c.unsigned_of-3.ensures at-cis.0.1 in
+    let i0 = of_handed w32 (unsigned 32) r.i0 c.unsigned_of-4.ensures at-i0.0.1 in
+    let crc = of_handed w32 (unsigned 16) r.crc c.unsigned_of-5.ensures at-crc.0.1 in
+    let perigee = of_handed w32 (unsigned 32) r.perigee c.unsigned_of-6.ensures at-perigee.0.1 in
+    let node-rate = of_handed w32 (unsigned 24) r.node_rate c.unsigned_of-7.ensures at-node-rate.0.1 in
+    let idot = of_handed w32 (unsigned 14) r.idot c.unsigned_of-8.ensures at-idot.0.1 in
     λ i. cic i ∷ node i ∷ cis i ∷ i0 i ∷ crc i ∷ perigee i ∷ node-rate i ∷ r.iode ∷ idot i ∷ 0 ∷ 0 ∷ 0 ∷ 0 ∷ 0 ∷ 0 ∷ 0 ∷ 0 ∷ 0 ∷ 0 ∷ []
 
 pub subframe3_numbers_spec : {M : Type 1} → statement M

@@ -12,9 +12,8 @@ use Rattle.numbers.proofs.kinds.utc_numbers.Tie as tie
 returns : tie.Need-returns
 unfolding numbers
 returns c =
-    let c11 = c.before.before in let c10 = c11.before.before in let c9 = c10.before.before in let c8 = c9.before.before in let c7 = c8.before.before in let c6 = c7.before.before in let c5 = c6.before.before in let c4 = c5.before.before in let c3 = c4.before.before in let c2 = c3.before.before in let c1 = c2.before.before in
-    let r = c1.before.before.args.r in
-    let at-alpha0 = c1.before.struct_told.given.1.1.1 in
+    let r = c.args.r in
+    let at-alpha0 = c.struct_told-1.given.1.1.1 in
     let at-alpha1 = at-alpha0.1 in
     let at-alpha2 = at-alpha1.1 in
     let at-alpha3 = at-alpha2.1 in
@@ -26,18 +25,18 @@ returns c =
     let at-a0 = at-a1.1 in
     let at-dtls = at-a0.1.1.1 in
     let at-dtlsf = at-dtls.1.1.1 in
-    let alpha0 = of_handed w32 (unsigned 8) r.alpha0 c1.Unsigned-of.ensures at-alpha0.0.1 in
-    let alpha1 = of_handed w32 (unsigned 8) r.alpha1 c2.unsigned-of2.ensures at-alpha1.0.1 in
-    let alpha2 = of_handed w32 (unsigned 8) r.alpha2 c3.unsigned-of3.ensures at-alpha2.0.1 in
-    let alpha3 = of_handed w32 (unsigned 8) r.alpha3 c4.unsigned-of4.ensures at-alpha3.0.1 in
-    let beta0 = of_handed w32 (unsigned 8) r.beta0 c5.unsigned-of5.ensures at-beta0.0.1 in
-    let beta1 = of_handed w32 (unsigned 8) r.beta1 c6.unsigned-of6.ensures at-beta1.0.1 in
-    let beta2 = of_handed w32 (unsigned 8) r.beta2 c7.unsigned-of7.ensures at-beta2.0.1 in
-    let beta3 = of_handed w32 (unsigned 8) r.beta3 c8.unsigned-of8.ensures at-beta3.0.1 in
-    let a1 = of_handed w32 (unsigned 24) r.a1 c9.unsigned-of9.ensures at-a1.0.1 in
-    let a0 = of_handed w32 (unsigned 32) r.a0 c10.unsigned-of10.ensures at-a0.0.1 in
-    let dtls = of_handed w32 (unsigned 8) r.dtls c11.unsigned-of11.ensures at-dtls.0.1 in
-    let dtlsf = of_handed w32 (unsigned 8) r.dtlsf c.unsigned-of12.ensures at-dtlsf.0.1 in
+    let alpha0 = of_handed w32 (unsigned 8) r.alpha0 c.unsigned_of.ensures at-alpha0.0.1 in
+    let alpha1 = of_handed w32 (unsigned 8) r.alpha1 c.unsigned_of-2.ensures at-alpha1.0.1 in
+    let alpha2 = of_handed w32 (unsigned 8) r.alpha2 c.unsigned_of-3.ensures at-alpha2.0.1 in
+    let alpha3 = of_handed w32 (unsigned 8) r.alpha3 c.unsigned_of-4.ensures at-alpha3.0.1 in
+    let beta0 = of_handed w32 (unsigned 8) r.beta0 c.unsigned_of-5.ensures at-beta0.0.1 in
+    let beta1 = of_handed w32 (unsigned 8) r.beta1 c.unsigned_of-6.ensures at-beta1.0.1 in
+    let beta2 = of_handed w32 (unsigned 8) r.beta2 c.unsigned_of-7.ensures at-beta2.0.1 in
+    let beta3 = of_handed w32 (unsigned 8) r.beta3 c.unsigned_of-8.ensures at-beta3.0.1 in
+    let a1 = of_handed w32 (unsigned 24) r.a1 c.unsigned_of-9.ensures at-a1.0.1 in
+    let a0 = of_handed w32 (unsigned 32) r.a0 c.unsigned_of-10.ensures at-a0.0.1 in
+    let dtls = of_handed w32 (unsigned 8) r.dtls c.unsigned_of-11.ensures at-dtls.0.1 in
+    let dtlsf = of_handed w32 (unsigned 8) r.dtlsf c.unsigned_of-12.ensures at-dtlsf.0.1 in
     λ i. r.data_id ∷ r.id ∷ alpha0 i ∷ alpha1 i ∷ alpha2 i ∷ alpha3 i ∷ beta0 i ∷ beta1 i ∷ beta2 i ∷ beta3 i ∷ a1 i ∷ a0 i ∷ r.tot ∷ r.wnt ∷ dtls i ∷ r.wnlsf ∷ r.dn ∷ dtlsf i ∷ r.reserved10 ∷ []
 
 pub utc_numbers_spec : {M : Type 1} → statement M

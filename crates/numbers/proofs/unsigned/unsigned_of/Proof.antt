@@ -17,29 +17,29 @@ use Rattle.numbers.proofs.unsigned.unsigned_of.Tie as tie
 halved : (c : tie.Start) → let h = 1 * 2 ^ (c.args.width - 1) % 4294967296 in (h * 2 ≡ 2 ^ c.args.width) × (h ≤ 2147483648)
 halved c = half c.args.width c.requires.0 c.requires.1
 
-size : (c : tie.After-magnitude) → c.magnitude.result ≡ mag c.before.args.v
-size c = c.magnitude.ensures.0 ∙ ap mag (as_is w32 c.before.args.v c.before.ranges.v.sfits)
+size : (c : tie.After-magnitude-m) → c.magnitude-m.result ≡ mag c.args.v
+size c = c.magnitude-m.ensures.0 ∙ ap mag (as_is w32 c.args.v c.ranges.v.sfits)
 
-returns : tie.Need-returns
+returns : tie.Need-returns-then-half-m
 returns c =
     let s = c.before.before in
     let h = halved s in
     omega (arith, unsigned_outside s.args.width s.args.v (omega (arith, size c.before)))
 
-returns-2 : tie.Need-returns-2
+returns-2 : tie.Need-returns-then-v-lt0
 returns-2 c =
     let s = c.before.before.before in
     let h = halved s in
-    let (n, is, e, l) = below-zero w32 s.args.v s.ranges.v.sfits c.if2.true in
-    let m : c.before.before.magnitude.result ≡ n = size c.before.before ∙ ap mag is in
+    let (n, is, e, l) = below-zero w32 s.args.v s.ranges.v.sfits c.if-v-lt0.true in
+    let m : c.magnitude-m.result ≡ n = size c.before.before ∙ ap mag is in
     omega (arith, m, ap (unsigned s.args.width) is, unsigned_negative s.args.width n (omega arith))
 
-returns-3 : tie.Need-returns-3
+returns-3 : tie.Need-returns
 returns-3 c =
     let s = c.before.before.before in
     let h = halved s in
-    let (n, is, e, l) = from_zero w32 s.args.v s.ranges.v.sfits c.if2.false in
-    let m : c.before.before.magnitude.result ≡ n = size c.before.before ∙ ap mag is in
+    let (n, is, e, l) = from_zero w32 s.args.v s.ranges.v.sfits c.if-v-lt0.false in
+    let m : c.magnitude-m.result ≡ n = size c.before.before ∙ ap mag is in
     m ∙ sym (ap (unsigned s.args.width) is ∙ unsigned-natural s.args.width n (omega arith))
 
 pub unsigned_of_spec : {M : Type 1} → statement M
