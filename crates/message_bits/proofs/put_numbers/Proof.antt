@@ -27,20 +27,20 @@ loop-holds c = (omega arith, refl, λ u stand. put_none _ _)
 loop-again : tie.Need-loop-i-preserved invariant-loop-i decreases-loop-i
 loop-again c =
     let a = c.args in
-    let width = get_or a.t3 c.loop-i.i 0 in (
+    let width = get_or a.widths c.loop-i.i 0 in (
       omega arith,
       put_length c.put_bits-next.ensures ∙ c.loop-i.invariant.1,
       λ u stand.
           put_same
-          (put_run (offset a.t3 c.loop-i.i) width u (unpack width (get_or a.t4 c.loop-i.i 0)) (c.loop-i.invariant.2 u stand) c.put_bits-next.ensures
+          (put_run (offset a.widths c.loop-i.i) width u (unpack width (get_or a.n c.loop-i.i 0)) (c.loop-i.invariant.2 u stand) c.put_bits-next.ensures
           (λ j h. sym (stand c.loop-i.i (omega arith) j h)))
-          (ap (λ (k : ℕ). tabulate k u) (sym (offset_more a.t3 c.loop-i.i))),
+          (ap (λ (k : ℕ). tabulate k u) (sym (offset_more a.widths c.loop-i.i))),
     )
 
 returns : tie.Need-returns invariant-loop-i decreases-loop-i
 returns c u stand =
     let all : c.loop-i.i ≡ 19 = omega arith in
-    put_same (c.loop-i.invariant.2 u stand) (ap (λ (k : ℕ). tabulate (offset c.args.t3 k) u) all)
+    put_same (c.loop-i.invariant.2 u stand) (ap (λ (k : ℕ). tabulate (offset c.args.widths k) u) all)
 
 pub put_numbers_spec : {M : Type 1} → statement M
 put_numbers_spec =

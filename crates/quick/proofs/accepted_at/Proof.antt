@@ -26,27 +26,27 @@ module _ (s : List ℕ) (p : ℕ) where
   no_start e =
       sym (accepted_at-false s p (λ g. let h = (acceptance s p).0 g in false≢true (sym e ∙ starts (bits_at s p) h.0.bits h.1)))
 
-returns : tie.Need-returns
+returns : tie.Need-returns-then-not-has_room
 returns c =
-    let a = c.before.before.before.args in
-    no_room a.log.now a.p (leb-false _ _ (sym c.before.has_room.ensures ∙ not-true _ c.if1.true))
+    let a = c.args in
+    no_room a.log.now a.p (leb-false _ _ (sym c.has_room.ensures ∙ c.if-not-has_room.true))
 
 -- there is room
-room : (c : tie.Else1) → c.before.before.before.args.p + 302 ≤ length c.before.before.before.args.log.now
-room c = leb-true _ _ (sym c.before.has_room.ensures ∙ not-false _ c.if1.false)
+room : (c : tie.Else-not-has_room) → c.args.p + 302 ≤ length c.args.log.now
+room c = leb-true _ _ (sym c.has_room.ensures ∙ c.if-not-has_room.false)
 
-returns-2 : tie.Need-returns-2
+returns-2 : tie.Need-returns-then-not-may_start
 returns-2 c =
-    let a = c.before.before.before.before.before.args in
-    no_start a.log.now a.p (sym c.before.may-start.ensures ∙ not-true _ c.if2.true)
+    let a = c.args in
+    no_start a.log.now a.p (sym c.may_start.ensures ∙ c.if-not-may_start.true)
 
-returns-3 : tie.Need-returns-3
+returns-3 : tie.Need-returns-in-Accepted
 unfolding accepted_at is_accepted checked_answer
-returns-3 c = ap (λ (r : Checked). is_accepted (checked_answer r)) (sym c.enum_told.given.1) ∙ ap is_accepted c.before.before.check-block.ensures
+returns-3 c = ap (λ (r : Checked). is_accepted (checked_answer r)) (sym c.in-Accepted.is) ∙ ap is_accepted c.check_block.ensures
 
-returns-4 : tie.Need-returns-4
+returns-4 : tie.Need-returns-in-Refused
 unfolding accepted_at is_accepted checked_answer
-returns-4 c = ap (λ (r : Checked). is_accepted (checked_answer r)) (sym c.enum-told2.given.1) ∙ ap is_accepted c.before.before.check-block.ensures
+returns-4 c = ap (λ (r : Checked). is_accepted (checked_answer r)) (sym c.in-Refused.is) ∙ ap is_accepted c.check_block.ensures
 
 pub accepted_at_spec : {M : Type 1} → statement M
 accepted_at_spec =

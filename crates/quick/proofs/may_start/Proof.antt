@@ -24,26 +24,26 @@ module _ (b : Block) (x : ℕ) (q : x ≡ preamble_bytes b) where
     unfolding may_start start_right
     neither m = sym (rw (← q, ne_eqb x 0x0100000001000101 n, ne_eqb x 0x0001010100010000 m))
 
-abbrev block : tie.After-preamble-bytes → Block
-block c = bits_at c.before.before.args.log.now c.before.before.args.p
+abbrev block : tie.After-preamble_bytes-bytes → Block
+block c = bits_at c.args.log.now c.args.p
 
-returns : tie.Need-returns
+returns : tie.Need-returns-then-bytes-eq-UPRIGHT
 returns c =
     let d = c.before.before in
-    let pair : c.pair-is.result ≡ pair_is (block d 0) (block d 1) 0 = c.pair-is.ensures in
-    pair ∙ upright (block d) d.preamble-bytes.result d.preamble-bytes.ensures c.before.if1.true
+    let pair : c.pair_is.result ≡ pair_is (block d 0) (block d 1) 0 = c.pair_is.ensures in
+    pair ∙ upright (block d) d.preamble_bytes-bytes.result d.preamble_bytes-bytes.ensures c.if-bytes-eq-UPRIGHT.true
 
-returns-2 : tie.Need-returns-2
+returns-2 : tie.Need-returns-then-bytes-eq-INVERTED
 returns-2 c =
     let d = c.before.before.before in
-    let pair : c.pair-is2.result ≡ pair_is (block d 0) (block d 1) 1 = c.pair-is2.ensures in
+    let pair : c.pair_is-then-bytes-eq-INVERTED.result ≡ pair_is (block d 0) (block d 1) 1 = c.pair_is-then-bytes-eq-INVERTED.ensures in
     pair
-    ∙ inverted (block d) d.preamble-bytes.result d.preamble-bytes.ensures c.before.before.if1.false c.before.if2.true
+    ∙ inverted (block d) d.preamble_bytes-bytes.result d.preamble_bytes-bytes.ensures c.if-bytes-eq-UPRIGHT.false c.if-bytes-eq-INVERTED.true
 
-returns-3 : tie.Need-returns-3
+returns-3 : tie.Need-returns
 returns-3 c =
     let d = c.before.before in
-    neither (block d) d.preamble-bytes.result d.preamble-bytes.ensures c.before.if1.false c.if2.false
+    neither (block d) d.preamble_bytes-bytes.result d.preamble_bytes-bytes.ensures c.if-bytes-eq-UPRIGHT.false c.if-bytes-eq-INVERTED.false
 
 pub may_start_spec : {M : Type 1} → statement M
 may_start_spec =

@@ -22,15 +22,15 @@ module _ (s : List ℕ) (p x : ℕ) where
   unfolding pair_is
   by_second h = sym (rw (bits_at-first s p, eq-eqb _ _ h))
 
-returns : tie.Need-returns
+returns : tie.Need-returns-then-log-p
 returns c =
-    let a = c.before.before.args in
-    unlike a.log.now a.p a.x c.if1.true
+    let a = c.args in
+    unlike a.log.now a.p a.x c.if-log-p.true
 
-returns-2 : tie.Need-returns-2
+returns-2 : tie.Need-returns
 returns-2 c =
-    let a = c.before.before.before.args in
-    by_second a.log.now a.p a.x c.before.if1.false
+    let a = c.args in
+    by_second a.log.now a.p a.x c.if-log-p.false
 
 pub pair_is_spec : {M : Type 1} → statement M
 pair_is_spec = tie.close (tie.spec (λ c. omega arith) returns (λ c. omega arith) (λ c. omega arith) returns-2)

@@ -22,49 +22,47 @@ room x n l h = let m : 256 ^ suc n ≤ 256 ^ 8 = pow-le-pow_right (zero-lt-suc 2
 joined : (x y n : ℕ) → x < 256 ^ n → y < 256 → x * 256 + y < 256 ^ (n + 1)
 joined x y n l h = rw (add-one n) (omega (arith, pow-suc 256 n))
 
-abbrev invariant-loop : tie.invariant-loop
-invariant-loop log p bytes₀ i₀ bytes i = (i ≤ 8) × ((bytes ≡ byte_number i (λ j. bits_at log p (2 + j))) × (bytes < 256 ^ i))
+abbrev invariant-loop-i : tie.invariant-loop-i
+invariant-loop-i log p bytes₀ i₀ bytes i = (i ≤ 8) × ((bytes ≡ byte_number i (λ j. bits_at log p (2 + j))) × (bytes < 256 ^ i))
 
-abbrev decreases-loop : tie.decreases-loop
-decreases-loop log p bytes₀ i₀ bytes i = 8 - i
+abbrev decreases-loop-i : tie.decreases-loop-i
+decreases-loop-i log p bytes₀ i₀ bytes i = 8 - i
 
-loop-holds : tie.Need-loop-init invariant-loop decreases-loop
+loop-holds : tie.Need-loop-i-init invariant-loop-i decreases-loop-i
 unfolding byte_number
 loop-holds c = (omega arith, (refl, omega arith))
 
-mul-bytes : tie.Need-overflow-mul-bytes invariant-loop decreases-loop
-mul-bytes c = omega (arith, room c.before.loop.bytes c.before.loop.i c.before.loop.invariant.1.1 (omega arith))
+mul-bytes : tie.Need-overflow_mul-bytes invariant-loop-i decreases-loop-i
+mul-bytes c = omega (arith, room c.loop-i.bytes c.loop-i.i c.loop-i.invariant.1.1 (omega arith))
 
-add-bytes : tie.Need-overflow-add-bytes invariant-loop decreases-loop
+add-bytes : tie.Need-overflow_add-bytes invariant-loop-i decreases-loop-i
 add-bytes c =
-    let at = c.before.before.before in
-    omega (arith, room at.loop.bytes at.loop.i at.loop.invariant.1.1 (omega arith), c.wide.ensures)
+    omega (arith, room c.loop-i.bytes c.loop-i.i c.loop-i.invariant.1.1 (omega arith), c.wide.ensures)
 
-loop-again : tie.Need-loop-preserved invariant-loop decreases-loop
+loop-again : tie.Need-loop-i-preserved invariant-loop-i decreases-loop-i
 loop-again c =
-    let at = c.before.before.before in
-    let a = at.before.before.args in
-    let byte : c.wide.result ≡ bits_at a.log.now a.p (2 + at.loop.i) =
-    c.wide.ensures.0 ∙ bits_at-later a.log.now a.p 2 at.loop.i in (
+    let a = c.args in
+    let byte : c.wide.result ≡ bits_at a.log.now a.p (2 + c.loop-i.i) =
+    c.wide.ensures.0 ∙ bits_at-later a.log.now a.p 2 c.loop-i.i in (
       omega arith,
       (
-        ap₂ (λ (x y : ℕ). x * 256 + y) at.loop.invariant.1.0 byte ∙ sym (more at.loop.i (λ j. bits_at a.log.now a.p (2 + j))),
-        joined at.loop.bytes c.wide.result at.loop.i at.loop.invariant.1.1 c.wide.ensures.1,
+        ap₂ (λ (x y : ℕ). x * 256 + y) c.loop-i.invariant.1.0 byte ∙ sym (more c.loop-i.i (λ j. bits_at a.log.now a.p (2 + j))),
+        joined c.loop-i.bytes c.wide.result c.loop-i.i c.loop-i.invariant.1.1 c.wide.ensures.1,
       ),
     )
 
-returns : tie.Need-returns invariant-loop decreases-loop
+returns : tie.Need-returns invariant-loop-i decreases-loop-i
 unfolding preamble_bytes
 returns c =
-    let a = c.before.before.before.args in
-    c.before.loop.invariant.1.0 ∙ ap (λ (n : ℕ). byte_number n (λ j. bits_at a.log.now a.p (2 + j))) (omega arith)
+    let a = c.args in
+    c.loop-i.invariant.1.0 ∙ ap (λ (n : ℕ). byte_number n (λ j. bits_at a.log.now a.p (2 + j))) (omega arith)
 
 pub preamble_bytes_spec : {M : Type 1} → statement M
 preamble_bytes_spec =
     tie.close
     (tie.spec
-    invariant-loop
-    decreases-loop
+    invariant-loop-i
+    decreases-loop-i
     loop-holds
     mul-bytes
     (λ c. omega arith)

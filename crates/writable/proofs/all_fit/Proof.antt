@@ -12,34 +12,32 @@ use Rattle.finite.specs.laws.Every.{every_below-true, every_below-false}
 use Rattle.writable.proofs.all_fit.Statement.{statement}
 use Rattle.writable.proofs.all_fit.Tie as tie
 
-abbrev invariant-loop : tie.invariant-loop
-invariant-loop widths n i₀ i = (i ≤ 19) × ((j : ℕ) → j < i → ltb (get_or n j 0) (2 ^ get_or widths j 0) ≡ true)
+abbrev invariant-loop-i : tie.invariant-loop-i
+invariant-loop-i widths n i₀ i = (i ≤ 19) × ((j : ℕ) → j < i → ltb (get_or n j 0) (2 ^ get_or widths j 0) ≡ true)
 
-abbrev decreases-loop : tie.decreases-loop
-decreases-loop widths n i₀ i = 19 - i
+abbrev decreases-loop-i : tie.decreases-loop-i
+decreases-loop-i widths n i₀ i = 19 - i
 
-loop-holds : tie.Need-loop-init invariant-loop decreases-loop
+loop-holds : tie.Need-loop-i-init invariant-loop-i decreases-loop-i
 loop-holds c = (omega arith, below_none _)
 
-fits-requires : tie.Need-fits-requires invariant-loop decreases-loop
-fits-requires c κs = c.before.before.requires _
+fits-requires : tie.Need-fits-requires invariant-loop-i decreases-loop-i
+fits-requires c κs = c.requires _
 
-returns : tie.Need-returns invariant-loop decreases-loop
+returns : tie.Need-returns-then-not-fits invariant-loop-i decreases-loop-i
 unfolding all_fit
 returns c =
-    let at = c.before.before.before in
-    sym (every_below-false 19 _ at.loop.i (omega arith) (sym c.before.fits2.ensures ∙ not-true _ c.if1.true))
+    sym (every_below-false 19 _ c.loop-i.i (omega arith) (sym c.fits.ensures ∙ c.if-not-fits.true))
 
-loop-again : tie.Need-loop-preserved invariant-loop decreases-loop
+loop-again : tie.Need-loop-i-preserved invariant-loop-i decreases-loop-i
 loop-again c =
-    let at = c.before.before.before in
-    (omega arith, below_more _ at.loop.i at.loop.invariant.1 (sym c.before.fits2.ensures ∙ not-false _ c.if1.false))
+    (omega arith, below_more _ c.loop-i.i c.loop-i.invariant.1 (sym c.fits.ensures ∙ c.if-not-fits.false))
 
-returns-2 : tie.Need-returns-2 invariant-loop decreases-loop
+returns-2 : tie.Need-returns invariant-loop-i decreases-loop-i
 unfolding all_fit
-returns-2 c = sym (every_below-true 19 _ (λ j h. c.before.loop.invariant.1 j (omega arith)))
+returns-2 c = sym (every_below-true 19 _ (λ j h. c.loop-i.invariant.1 j (omega arith)))
 
 pub all_fit_spec : {M : Type 1} → statement M
 all_fit_spec =
     tie.close
-    (tie.spec invariant-loop decreases-loop loop-holds (λ c. omega arith) (λ c. omega arith) (λ c. omega arith) (λ c. omega arith) fits-requires returns (λ c. omega arith) (λ c. omega arith) loop-again returns-2)
+    (tie.spec invariant-loop-i decreases-loop-i loop-holds (λ c. omega arith) (λ c. omega arith) (λ c. omega arith) (λ c. omega arith) fits-requires returns (λ c. omega arith) (λ c. omega arith) loop-again returns-2)

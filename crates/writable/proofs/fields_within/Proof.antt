@@ -9,20 +9,20 @@ use Rattle.record.specs.declared.kind.Kind.{Kind}
 use Rattle.writable.proofs.fields_within.Statement.{statement}
 use Rattle.writable.proofs.fields_within.Tie as tie
 
-table : (c : tie.After-widths) → c.widths.result ≡ Table.widths 19 (fields_of (kind_of c.before.before.args.r))
-table c = c.widths.ensures ∙ ap (λ (k : Kind). Table.widths 19 (fields_of k)) c.before.kind-of.ensures
+table : (c : tie.After-widths) → c.widths.result ≡ Table.widths 19 (fields_of (kind_of c.args.r))
+table c = c.widths.ensures ∙ ap (λ (k : Kind). Table.widths 19 (fields_of k)) c.kind_of.ensures
 
-all-fit-requires : tie.Need-all-fit-requires
+all-fit-requires : tie.Need-all_fit-requires
 all-fit-requires c κs =
-    let k = kind_of c.before.before.before.args.r in
-    table-most 190 (fields_of k) (fields_sound k) c.before.widths.result (table c.before)
+    let k = kind_of c.args.r in
+    table-most 190 (fields_of k) (fields_sound k) c.widths.result (table c.before)
 
 returns : tie.Need-returns
 returns c =
-    let r = c.before.before.before.before.args.r in
+    let r = c.args.r in
     let k = kind_of r in
     c.all_fit.ensures
-    ∙ table-within 190 (fields_of k) (fields_sound k) c.before.before.widths.result (table c.before.before) (field_values r) c.before.field-numbers.result c.before.field-numbers.ensures
+    ∙ table-within 190 (fields_of k) (fields_sound k) c.widths.result (table c.before.before) (field_values r) c.field_numbers.result c.field_numbers.ensures
 
 pub fields_within_spec : {M : Type 1} → statement M
 fields_within_spec =

@@ -17,23 +17,23 @@ use Rattle.record.specs.declared.record.Record.{Record}
 use Rattle.writable.proofs.writable.Statement.{statement}
 use Rattle.writable.proofs.writable.Tie as tie
 
-header_in : (c : tie.Else1) → all_within header_fields (header_values (header c.before.before.args.r)) ≡ true
-header_in c = sym c.before.header-within.ensures ∙ not-false _ c.if1.false
+header_in : (c : tie.Else-not-header_within) → all_within header_fields (header_values (header c.args.r)) ≡ true
+header_in c = sym c.header_within.ensures ∙ c.if-not-header_within.false
 
-fields_in : (c : tie.Else2) → all_within (fields_of (kind_of c.before.before.before.before.args.r)) (field_values c.before.before.before.before.args.r) ≡ true
-fields_in c = sym c.before.fields_within.ensures ∙ not-false _ c.if2.false
+fields_in : (c : tie.Else-not-fields_within) → all_within (fields_of (kind_of c.args.r)) (field_values c.args.r) ≡ true
+fields_in c = sym c.fields_within.ensures ∙ c.if-not-fields_within.false
 
-returns : tie.Need-returns
+returns : tie.Need-returns-then-not-header_within
 unfolding writable within_fields
 returns c =
-    let none : all_within header_fields (header_values (header c.before.before.args.r)) ≡ false = sym c.before.header-within.ensures ∙ not-true _ c.if1.true in
+    let none : all_within header_fields (header_values (header c.args.r)) ≡ false = sym c.header_within.ensures ∙ c.if-not-header_within.true in
     rw none
 
-returns-2 : tie.Need-returns-2
+returns-2 : tie.Need-returns-then-not-fields_within
 unfolding writable within_fields
 returns-2 c =
-    let r = c.before.before.before.before.args.r in
-    let none : all_within (fields_of (kind_of r)) (field_values r) ≡ false = sym c.before.fields_within.ensures ∙ not-true _ c.if2.true in
+    let r = c.args.r in
+    let none : all_within (fields_of (kind_of r)) (field_values r) ≡ false = sym c.fields_within.ensures ∙ c.if-not-fields_within.true in
     rw (header_in c.before.before, none)
 
 -- the third number of the header is the count
@@ -41,24 +41,24 @@ counted : (r : Record) (n : List ℕ) → n ≡ numbers 19 header_fields (header
 unfolding numbers
 counted r n e = ap (λ (l : List ℕ). get_or l 2 0) e
 
-returns-3 : tie.Need-returns-3
+returns-3 : tie.Need-returns-then-header_numbers-gt-LARGEST_COUNT
 unfolding writable within_fields
 returns-3 c =
     let else2 = c.before.before in
-    let r = else2.before.before.before.before.args.r in
-    let count = counted r c.before.header-numbers.result c.before.header-numbers.ensures in
-    let high : ltb 100799 (header r).count ≡ true = lt-ltb 100799 (header r).count (omega (arith, count, c.if3.true)) in
+    let r = else2.args.r in
+    let count = counted r c.header_numbers.result c.header_numbers.ensures in
+    let high : ltb 100799 (header r).count ≡ true = lt-ltb 100799 (header r).count (omega (arith, count, c.if-header_numbers-gt-LARGEST_COUNT.true)) in
     rw (header_in else2.before.before, fields_in else2, high)
 
-returns-4 : tie.Need-returns-4
+returns-4 : tie.Need-returns
 unfolding writable within_fields
 returns-4 c =
     let d = c.before in
     let else2 = d.before.before in
-    let r = else2.before.before.before.before.args.r in
-    let count = counted r d.before.header-numbers.result d.before.header-numbers.ensures in
-    let low : ltb 100799 (header r).count ≡ false = le-ltb 100799 (header r).count (omega (arith, count, d.if3.false)) in
-    rw (header_in else2.before.before, fields_in else2, low) c.of-its-kind.ensures
+    let r = else2.args.r in
+    let count = counted r d.header_numbers.result d.header_numbers.ensures in
+    let low : ltb 100799 (header r).count ≡ false = le-ltb 100799 (header r).count (omega (arith, count, d.if-header_numbers-gt-LARGEST_COUNT.false)) in
+    rw (header_in else2.before.before, fields_in else2, low) c.of_its_kind.ensures
 
 pub writable_spec : {M : Type 1} → statement M
 writable_spec =

@@ -11,44 +11,44 @@ use Rattle.block_check.proofs.check.check_bits.Statement.{statement}
 use Rattle.block_check.proofs.check.check_bits.Tie as tie
 
 -- the place and the block, once its bytes are looked through
-abbrev place : tie.After-first-above → ℕ
-place c = c.before.before.args.p
+abbrev place : tie.After-first_above-i → ℕ
+place c = c.args.p
 
-abbrev block : tie.After-first-above → Block
-block c = bits_at c.before.before.args.log.now c.before.before.args.p
+abbrev block : tie.After-first_above-i → Block
+block c = bits_at c.args.log.now c.args.p
 
 -- that state, once the words are checked too, when the start pair is equal
-abbrev looked : tie.After-first-broken → tie.After-first-above
+abbrev looked : tie.After-first_broken-k → tie.After-first_above-i
 looked c = c.before.before.before.before.before
 
-pair : (c : tie.After-first-broken) → block (looked c) 0 ≡ block (looked c) 1
-pair c = bits_at-first (looked c).before.before.args.log.now (place (looked c)) ∙ c.before.if2.false
+pair : (c : tie.After-first_broken-k) → block (looked c) 0 ≡ block (looked c) 1
+pair c = bits_at-first (looked c).args.log.now (place (looked c)) ∙ c.if-log-p.false
 
-returns : tie.Need-returns
+returns : tie.Need-returns-then-i-lt-BLOCK_BYTES
 returns c =
     let d = c.before.before in
-    c.refused.ensures ∙ way_2 (place d) (block d) _ d.first_above.ensures (omega arith)
+    c.refused.ensures ∙ way_2 (place d) (block d) _ d.first_above-i.ensures (omega arith)
 
-returns-2 : tie.Need-returns-2
+returns-2 : tie.Need-returns-then-log-p
 returns-2 c =
     let d = c.before.before.before.before.before in
-    let a = d.before.before.args in
-    c.refused2.ensures
-    ∙ way_4 (place d) (block d) _ d.first_above.ensures (omega arith) (λ e. c.before.if2.true (sym (bits_at-first a.log.now a.p) ∙ e))
+    let a = d.args in
+    c.refused-then-log-p.ensures
+    ∙ way_4 (place d) (block d) _ d.first_above-i.ensures (omega arith) (λ e. c.if-log-p.true (sym (bits_at-first a.log.now a.p) ∙ e))
 
-returns-3 : tie.Need-returns-3
+returns-3 : tie.Need-returns-then-k-lt11
 returns-3 c =
     let k = c.before.before in
     let d = looked k in
-    c.refused3.ensures
-    ∙ way_5 (place d) (block d) _ d.first_above.ensures (omega arith) (pair k) _ k.first-broken.ensures (omega arith)
+    c.refused-then-k-lt11.ensures
+    ∙ way_5 (place d) (block d) _ d.first_above-i.ensures (omega arith) (pair k) _ k.first_broken-k.ensures (omega arith)
 
-returns-4 : tie.Need-returns-4
+returns-4 : tie.Need-returns
 returns-4 c =
     let k = c.before.before in
     let d = looked k in
-    c.check-fields.ensures
-    ∙ way_fields (place d) (block d) _ d.first_above.ensures (omega arith) (pair k) _ k.first-broken.ensures (omega arith)
+    c.check_fields.ensures
+    ∙ way_fields (place d) (block d) _ d.first_above-i.ensures (omega arith) (pair k) _ k.first_broken-k.ensures (omega arith)
 
 pub check_bits_spec : {M : Type 1} → statement M
 check_bits_spec =

@@ -30,15 +30,15 @@ module _ (s : List ℕ) (p k : ℕ) (h : 1 ≤ k) where
   unfolding ends_alike
   by_30 e = sym (rw (end_29, bits_at-first s p, end_30, eq-eqb _ _ e))
 
-returns : tie.Need-returns
+returns : tie.Need-returns-then-log-end
 returns c =
-    let a = c.before.before.before.args in
-    unlike_29 a.log.now a.p a.k (omega arith) c.if1.true
+    let a = c.args in
+    unlike_29 a.log.now a.p a.k (omega arith) c.if-log-end.true
 
-returns-2 : tie.Need-returns-2
+returns-2 : tie.Need-returns
 returns-2 c =
-    let a = c.before.before.before.before.before.args in
-    by_30 a.log.now a.p a.k (omega arith) c.before.before.if1.false
+    let a = c.args in
+    by_30 a.log.now a.p a.k (omega arith) c.if-log-end.false
 
 pub ends_alike_spec : {M : Type 1} → statement M
 ends_alike_spec =

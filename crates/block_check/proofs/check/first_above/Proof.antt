@@ -12,33 +12,31 @@ use Rattle.block_check.specs.Check.{first_above}
 use Rattle.block_check.proofs.check.first_above.Statement.{statement}
 use Rattle.block_check.proofs.check.first_above.Tie as tie
 
-abbrev invariant-loop : tie.invariant-loop
-invariant-loop log p i₀ i = (i ≤ 302) × ((j : ℕ) → j < i → ltb 1 (get_or log (p + j) 0) ≡ false)
+abbrev invariant-loop-i : tie.invariant-loop-i
+invariant-loop-i log p i₀ i = (i ≤ 302) × ((j : ℕ) → j < i → ltb 1 (get_or log (p + j) 0) ≡ false)
 
-abbrev decreases-loop : tie.decreases-loop
-decreases-loop log p i₀ i = 302 - i
+abbrev decreases-loop-i : tie.decreases-loop-i
+decreases-loop-i log p i₀ i = 302 - i
 
-loop-holds : tie.Need-loop-init invariant-loop decreases-loop
+loop-holds : tie.Need-loop-i-init invariant-loop-i decreases-loop-i
 loop-holds c = (omega arith, below_none _)
 
-returns : tie.Need-returns invariant-loop decreases-loop
+returns : tie.Need-returns-then-log-p-gt1 invariant-loop-i decreases-loop-i
 unfolding first_above
 returns c =
-    let at = c.before.before.before in
-    sym (first-here _ 0 302 at.loop.i (omega arith) (omega arith) (λ j l h. at.loop.invariant.1 j h) (lt-ltb _ _ c.if1.true))
+    sym (first-here _ 0 302 c.loop-i.i (omega arith) (omega arith) (λ j l h. c.loop-i.invariant.1 j h) (lt-ltb _ _ c.if-log-p-gt1.true))
 
-loop-again : tie.Need-loop-preserved invariant-loop decreases-loop
+loop-again : tie.Need-loop-i-preserved invariant-loop-i decreases-loop-i
 loop-again c =
-    let at = c.before.before.before in
-    (omega arith, below_more _ at.loop.i at.loop.invariant.1 (le-ltb _ _ c.if1.false))
+    (omega arith, below_more _ c.loop-i.i c.loop-i.invariant.1 (le-ltb _ _ c.if-log-p-gt1.false))
 
-returns-2 : tie.Need-returns-2 invariant-loop decreases-loop
+returns-2 : tie.Need-returns invariant-loop-i decreases-loop-i
 unfolding first_above
 returns-2 c =
-    let all : c.before.loop.i ≡ 302 = omega arith in
-    all ∙ sym (first_none _ 0 302 (λ j l h. c.before.loop.invariant.1 j (omega arith)))
+    let all : c.loop-i.i ≡ 302 = omega arith in
+    all ∙ sym (first_none _ 0 302 (λ j l h. c.loop-i.invariant.1 j (omega arith)))
 
 pub first_above_spec : {M : Type 1} → statement M
 first_above_spec =
     tie.close
-    (tie.spec invariant-loop decreases-loop loop-holds (λ c. omega arith) (λ c. omega arith) returns (λ c. omega arith) (λ c. omega arith) loop-again returns-2)
+    (tie.spec invariant-loop-i decreases-loop-i loop-holds (λ c. omega arith) (λ c. omega arith) returns (λ c. omega arith) (λ c. omega arith) loop-again returns-2)

@@ -15,54 +15,52 @@ use Rattle.block_check.specs.Check.{first_broken}
 use Rattle.block_check.proofs.check.first_broken.Statement.{statement}
 use Rattle.block_check.proofs.check.first_broken.Tie as tie
 
-abbrev invariant-loop : tie.invariant-loop
-invariant-loop log p k₀ k = (1 ≤ k) × ((k ≤ 11) × ((j : ℕ) → j < k → 1 ≤ j → not (passes (window (bits_at log p) j)) ≡ false))
+abbrev invariant-loop-k : tie.invariant-loop-k
+invariant-loop-k log p k₀ k = (1 ≤ k) × ((k ≤ 11) × ((j : ℕ) → j < k → 1 ≤ j → not (passes (window (bits_at log p) j)) ≡ false))
 
-abbrev decreases-loop : tie.decreases-loop
-decreases-loop log p k₀ k = 11 - k
+abbrev decreases-loop-k : tie.decreases-loop-k
+decreases-loop-k log p k₀ k = 11 - k
 
-loop-holds : tie.Need-loop-init invariant-loop decreases-loop
+loop-holds : tie.Need-loop-k-init invariant-loop-k decreases-loop-k
 loop-holds c = (omega arith, (omega arith, λ j h l. absurd (omega arith)))
 
 -- what the word check answered, of the block's own word
-module _ (c : tie.After-word-passes invariant-loop decreases-loop) where
+module _ (c : tie.After-word_passes invariant-loop-k decreases-loop-k) where
   abbrev log : List ℕ
-  log = c.before.before.before.before.before.args.log.now
+  log = c.args.log.now
 
   abbrev place : ℕ
-  place = c.before.before.before.before.before.args.p
+  place = c.args.p
 
   abbrev word : ℕ
-  word = c.before.before.before.loop.k
+  word = c.loop-k.k
 
-  answered : not (passes (window (bits_at log place) word)) ≡ not c.word-passes.result
+  answered : not (passes (window (bits_at log place) word)) ≡ not c.word_passes.result
   answered =
-      let packed : c.before.packed-window.result ≡ packed_at log place word = c.before.packed-window.ensures in
-      sym (ap not (c.word-passes.ensures ∙ ap (λ (w : ℕ). passes (unpack 32 w)) packed ∙ passes_at log place word))
+      let packed : c.packed_window.result ≡ packed_at log place word = c.packed_window.ensures in
+      sym (ap not (c.word_passes.ensures ∙ ap (λ (w : ℕ). passes (unpack 32 w)) packed ∙ passes_at log place word))
 
-returns : tie.Need-returns invariant-loop decreases-loop
+returns : tie.Need-returns-then-not-word_passes invariant-loop-k decreases-loop-k
 unfolding first_broken
 returns c =
-    let at = c.before.before.before.before in
-    sym (first-here _ 1 10 at.loop.k (omega arith) (omega arith) (λ j l h. at.loop.invariant.1.1 j h l) (answered c.before ∙ c.if1.true))
+    sym (first-here _ 1 10 c.loop-k.k (omega arith) (omega arith) (λ j l h. c.loop-k.invariant.1.1 j h l) (answered c.before ∙ ap not c.if-not-word_passes.true))
 
-loop-again : tie.Need-loop-preserved invariant-loop decreases-loop
+loop-again : tie.Need-loop-k-preserved invariant-loop-k decreases-loop-k
 loop-again c =
-    let at = c.before.before.before.before in
-    (omega arith, (omega arith, below_more _ at.loop.k at.loop.invariant.1.1 (λ l. answered c.before ∙ c.if1.false)))
+    (omega arith, (omega arith, below_more _ c.loop-k.k c.loop-k.invariant.1.1 (λ l. answered c.before ∙ ap not c.if-not-word_passes.false)))
 
-returns-2 : tie.Need-returns-2 invariant-loop decreases-loop
+returns-2 : tie.Need-returns invariant-loop-k decreases-loop-k
 unfolding first_broken
 returns-2 c =
-    let all : c.before.loop.k ≡ 11 = omega arith in
-    all ∙ sym (first_none _ 1 10 (λ j l h. c.before.loop.invariant.1.1 j (omega arith) l))
+    let all : c.loop-k.k ≡ 11 = omega arith in
+    all ∙ sym (first_none _ 1 10 (λ j l h. c.loop-k.invariant.1.1 j (omega arith) l))
 
 pub first_broken_spec : {M : Type 1} → statement M
 first_broken_spec =
     tie.close
     (tie.spec
-    invariant-loop
-    decreases-loop
+    invariant-loop-k
+    decreases-loop-k
     loop-holds
     (λ c. omega arith)
     (λ c. omega arith)

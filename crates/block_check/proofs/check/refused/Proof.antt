@@ -7,7 +7,7 @@ use Rattle.block_check.proofs.check.refused.Tie as tie
 
 returns : tie.Need-returns
 unfolding checked_answer
-returns c = ap refusal_answer c.refusal-by.ensures
+returns c = ap refusal_answer c.refusal_by.ensures
 
 pub refused_spec : {M : Type 1} → statement M
 refused_spec = tie.close (tie.spec (λ c κs. search rules) returns)

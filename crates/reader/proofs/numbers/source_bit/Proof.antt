@@ -8,8 +8,8 @@ use Rattle.reader.proofs.numbers.source_bit.Tie as tie
 
 returns : tie.Need-returns
 returns c =
-    let a = c.before.before.before.args in
-    (omega (arith, c.before.bit_at.ensures, c.bit-at2.ensures, source-bit (bits_at a.log.now a.p) a.i (omega arith)), omega arith)
+    let a = c.args in
+    (omega (arith, c.bit_at.ensures, c.bit_at-2.ensures, source-bit (bits_at a.log.now a.p) a.i (omega arith)), omega arith)
 
 pub source_bit_spec : {M : Type 1} → statement M
 source_bit_spec =

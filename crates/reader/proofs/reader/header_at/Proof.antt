@@ -11,20 +11,20 @@ use Rattle.record.specs.laws.Sound.{header_sound, table-most, table-size, table-
 use Rattle.reader.proofs.reader.header_at.Statement.{statement}
 use Rattle.reader.proofs.reader.header_at.Tie as tie
 
-numbers-at-requires : tie.Need-numbers-at-requires
+numbers-at-requires : tie.Need-numbers_at-requires
 numbers-at-requires c κs =
-    let ws = c.header-widths.result in
-    let e = c.header-widths.ensures in
+    let ws = c.header_widths.result in
+    let e = c.header_widths.ensures in
     (omega (arith, table-size 38 header_fields header_sound ws e), table-most 38 header_fields header_sound ws e)
 
 returns : tie.Need-returns
 unfolding header_in
 returns c =
-    let a = c.before.before.before.before.args in
-    let widths = c.before.before.header-widths in
-    c.header-from.ensures
+    let a = c.args in
+    let widths = c.header_widths in
+    c.header_from.ensures
     ∙ ap header_of
-    (table-decode 38 header_fields header_sound widths.result widths.ensures 8 (source (bits_at a.log.now a.p)) c.before.numbers-at.result c.before.numbers-at.ensures)
+    (table-decode 38 header_fields header_sound widths.result widths.ensures 8 (source (bits_at a.log.now a.p)) c.numbers_at.result c.numbers_at.ensures)
 
 pub header_at_spec : {M : Type 1} → statement M
 header_at_spec =

@@ -12,24 +12,24 @@ use Rattle.reader.specs.Reader.{reading_answer}
 use Rattle.reader.proofs.reader.read.Statement.{statement}
 use Rattle.reader.proofs.reader.read.Tie as tie
 
-accepted : (c : tie.After-enum-told) → Accepted c.before.before.before.before.args.log.now c.before.before.before.before.args.p
+accepted : (c : tie.In-Accepted) → Accepted c.args.log.now c.args.p
 unfolding checked_answer
-accepted c = sym c.before.before.check-block.ensures ∙ ap checked_answer c.enum_told.given.1
+accepted c = sym c.check_block.ensures ∙ ap checked_answer c.in-Accepted.is
 
-returns : tie.Need-returns
+returns : tie.Need-returns-in-Accepted
 unfolding reading_answer Reader.read when_accepted
 returns c =
-    let a = c.before.before.before.before.before.args in
-    ap A.accepted c.record-at.ensures
+    let a = c.args in
+    ap A.accepted c.record_at.ensures
     ∙ sym (ap (λ (x : Answer (Unit {0})). when_accepted x (record_of (source (bits_at a.log.now a.p)))) (accepted c.before))
 
-returns-2 : tie.Need-returns-2
+returns-2 : tie.Need-returns-in-Refused
 unfolding reading_answer Reader.read when_accepted checked_answer
 returns-2 c =
-    let a = c.before.before.before.before.before.args in
+    let a = c.args in
     sym
     (ap (λ (x : Answer (Unit {0})). when_accepted x (record_of (source (bits_at a.log.now a.p))))
-    (sym c.before.before.before.check-block.ensures ∙ ap checked_answer c.before.r.given.1))
+    (sym c.check_block.ensures ∙ ap checked_answer c.in-Refused.is))
 
 pub read_spec : {M : Type 1} → statement M
 read_spec =

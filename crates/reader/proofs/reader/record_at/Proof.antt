@@ -18,9 +18,9 @@ use Rattle.record.specs.declared.record.Header.{Header}
 use Rattle.reader.proofs.reader.record_at.Statement.{statement}
 use Rattle.reader.proofs.reader.record_at.Tie as tie
 
-numbers-at-requires : tie.Need-numbers-at-requires
+numbers-at-requires : tie.Need-numbers_at-requires
 numbers-at-requires c κs =
-    let k = c.before.kind-for.result in (
+    let k = c.kind_for-kind.result in (
       omega (arith, table-size 190 (fields_of k) (fields_sound k) c.widths.result c.widths.ensures),
       table-most 190 (fields_of k) (fields_sound k) c.widths.result c.widths.ensures,
     )
@@ -36,18 +36,18 @@ made s k h d i kind head data-id id =
 returns : tie.Need-returns
 unfolding data_id_in id_in
 returns c =
-    let a = c.before.before.before.before.before.before.before.before.args in
+    let a = c.args in
     let s = source (bits_at a.log.now a.p) in
-    let k = c.before.before.before.kind-for.result in
-    let h = c.before.before.before.before.before.before.header_at.result in
-    let values = table-decode 190 (fields_of k) (fields_sound k) c.before.before.widths.result c.before.before.widths.ensures 48 s c.before.numbers-at.result c.before.numbers-at.ensures in
-    c.record-from.ensures
+    let k = c.kind_for-kind.result in
+    let h = c.header_at-header.result in
+    let values = table-decode 190 (fields_of k) (fields_sound k) c.widths.result c.widths.ensures 48 s c.numbers_at.result c.numbers_at.ensures in
+    c.record_from.ensures
     ∙ ap (record_with k h) values
-    ∙ made s k h c.before.before.before.before.before.number_at.result c.before.before.before.before.number-at2.result
-    (kind_only k h.subframe _ _ c.before.before.before.kind-for.ensures)
-    c.before.before.before.before.before.before.header_at.ensures
-    c.before.before.before.before.before.number_at.ensures
-    c.before.before.before.before.number-at2.ensures
+    ∙ made s k h c.number_at-data_id.result c.number_at-id.result
+    (kind_only k h.subframe _ _ c.kind_for-kind.ensures)
+    c.header_at-header.ensures
+    c.number_at-data_id.ensures
+    c.number_at-id.ensures
 
 pub record_at_spec : {M : Type 1} → statement M
 record_at_spec =
