@@ -7,14 +7,14 @@ use answer::{Refusal, refusal_by};
 use record::{Record, Subframe1};
 
 // A length in metres, or that no prediction exists.
-#[derive(Drop)]
+#[derive(Clone, Copy)]
 pub enum UserRangeAccuracy {
     Metres(f64),
     NoPrediction,
 }
 
 // The answer to the question for the accuracy.
-#[derive(Drop)]
+#[derive(Clone, Copy)]
 pub enum GivenAccuracy {
     Given(UserRangeAccuracy),
     Refused(Refusal),

@@ -7,7 +7,7 @@ use answer::{Refusal, refusal_by};
 use record::{Record, Subframe1};
 
 // TGD and the terms of the clock's polynomial.
-#[derive(Drop)]
+#[derive(Clone, Copy)]
 pub struct ClockTerms {
     pub tgd: f64,
     pub af0: f64,
@@ -16,7 +16,7 @@ pub struct ClockTerms {
 }
 
 // The answer to the question for the clock terms.
-#[derive(Drop)]
+#[derive(Clone, Copy)]
 pub enum GivenTerms {
     Given(ClockTerms),
     Refused(Refusal),

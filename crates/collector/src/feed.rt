@@ -11,7 +11,7 @@ use record::Record;
 use satellite_number::is_satellite;
 
 // The answer of a feed, and the collector after it.
-#[derive(Drop)]
+#[derive(Clone, Copy)]
 pub struct Fed {
     pub answer: Checked,
     pub collector: Collector,

@@ -7,7 +7,7 @@ use pages::Pages;
 use satellite::Satellite;
 
 // Satellite n stands at index n - 1.
-#[derive(Drop)]
+#[derive(Clone, Copy)]
 pub struct Collector {
     pub(crate) satellites: [Satellite; 32],
     pub(crate) pages: Pages,

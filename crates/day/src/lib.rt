@@ -4,7 +4,7 @@ ghost use Rattle.integers.specs.Whole.{modulo};
 ghost use Rattle.day.specs.Day.{time_at};
 
 // A time of day.
-#[derive(Drop)]
+#[derive(Clone, Copy)]
 pub struct TimeOfDay {
     pub hour: u32,
     pub minute: u32,

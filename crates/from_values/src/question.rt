@@ -9,19 +9,19 @@ use record::{Record, Subframe1, UtcPage};
 use values::values_of;
 
 // The answers to the questions for the record.
-#[derive(Drop)]
+#[derive(Clone, Copy)]
 pub enum GivenRecord {
     Given(Record),
     Refused(Refusal),
 }
 
-#[derive(Drop)]
+#[derive(Clone, Copy)]
 pub enum GivenSubframe1 {
     Given(Subframe1),
     Refused(Refusal),
 }
 
-#[derive(Drop)]
+#[derive(Clone, Copy)]
 pub enum GivenUtcPage {
     Given(UtcPage),
     Refused(Refusal),

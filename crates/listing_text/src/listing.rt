@@ -11,7 +11,7 @@ use search::Found;
 use text::{put_byte, put_field, put_text};
 
 // The answer of the listing.
-#[derive(Drop)]
+#[derive(Clone, Copy)]
 pub enum Listed {
     Length(usize),
     Refused(Refusal),

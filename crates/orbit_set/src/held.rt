@@ -2,25 +2,25 @@
 use record::{Subframe1, Subframe2, Subframe3};
 
 // The latest record of a kind, or nothing where none was fed.
-#[derive(Drop)]
+#[derive(Clone, Copy)]
 pub enum HeldSubframe1 {
     Nothing,
     Latest(Subframe1),
 }
 
-#[derive(Drop)]
+#[derive(Clone, Copy)]
 pub enum HeldSubframe2 {
     Nothing,
     Latest(Subframe2),
 }
 
-#[derive(Drop)]
+#[derive(Clone, Copy)]
 pub enum HeldSubframe3 {
     Nothing,
     Latest(Subframe3),
 }
 
-#[derive(Drop)]
+#[derive(Clone, Copy)]
 pub struct HeldSubframes {
     pub subframe1: HeldSubframe1,
     pub subframe2: HeldSubframe2,

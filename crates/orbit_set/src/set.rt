@@ -9,7 +9,7 @@ use answer::{Refusal, refusal_by};
 use record::{Subframe1, Subframe2, Subframe3};
 
 // A satellite's set (a term of document 01): its three held records.
-#[derive(Drop)]
+#[derive(Clone, Copy)]
 pub struct OrbitSet {
     pub subframe1: Subframe1,
     pub subframe2: Subframe2,
@@ -17,7 +17,7 @@ pub struct OrbitSet {
 }
 
 // The answer to the question for a set.
-#[derive(Drop)]
+#[derive(Clone, Copy)]
 pub enum GivenSet {
     Given(OrbitSet),
     Refused(Refusal),

@@ -9,26 +9,26 @@ use record::{AlmanacPage, Record, UtcPage};
 use satellite_number::is_satellite;
 
 // The latest page of a kind, or nothing where none was fed.
-#[derive(Drop)]
+#[derive(Clone, Copy)]
 pub enum HeldAlmanac {
     Nothing,
     Latest(AlmanacPage),
 }
 
-#[derive(Drop)]
+#[derive(Clone, Copy)]
 pub enum HeldUtc {
     Nothing,
     Latest(UtcPage),
 }
 
 // What is held for one SV ID.
-#[derive(Drop)]
+#[derive(Clone, Copy)]
 pub struct AlmanacEntry {
     pub(crate) page: HeldAlmanac,
 }
 
 // SV ID n stands at index n - 1.
-#[derive(Drop)]
+#[derive(Clone, Copy)]
 pub struct Pages {
     pub(crate) almanac: [AlmanacEntry; 32],
     pub(crate) utc: HeldUtc,

@@ -9,14 +9,14 @@ use record::{AlmanacPage, UtcPage};
 use satellite_number::is_satellite;
 
 // The answer to the question for an almanac page.
-#[derive(Drop)]
+#[derive(Clone, Copy)]
 pub enum GivenAlmanac {
     Given(AlmanacPage),
     Refused(Refusal),
 }
 
 // The answer to the question for the UTC page.
-#[derive(Drop)]
+#[derive(Clone, Copy)]
 pub enum GivenUtc {
     Given(UtcPage),
     Refused(Refusal),

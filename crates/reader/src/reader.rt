@@ -11,7 +11,7 @@ use answer::{Checked, Refusal};
 use record::{Header, Record};
 
 // The answer of the reader.
-#[derive(Drop)]
+#[derive(Clone, Copy)]
 pub enum Reading {
     Accepted(Record),
     Refused(Refusal),

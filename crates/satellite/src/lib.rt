@@ -6,7 +6,7 @@ use orbit_set::{HeldSubframe1, HeldSubframe2, HeldSubframe3, HeldSubframes};
 use record::Record;
 
 // What is held of one satellite.
-#[derive(Drop)]
+#[derive(Clone, Copy)]
 pub struct Satellite {
     pub subframes: HeldSubframes,
 }

@@ -6,7 +6,7 @@ ghost use Rattle.search.specs.Search.{found_answer, first_place};
 use answer::{Refusal, refusal_by};
 
 // The answer of the search.
-#[derive(Drop)]
+#[derive(Clone, Copy)]
 pub enum Found {
     At(usize),
     Refused(Refusal),

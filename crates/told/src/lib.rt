@@ -7,7 +7,7 @@ use answer::Checked;
 
 // The number and the detail of an answer.
 #[repr(C)]
-#[derive(Drop)]
+#[derive(Clone, Copy)]
 pub struct LnavAnswer {
     pub number: u8,
     pub detail: usize,

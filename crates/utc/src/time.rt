@@ -9,7 +9,7 @@ use leap::{leap_moment, week_difference};
 use record::{Record, UtcPage};
 
 // The answer to the question for the time of day.
-#[derive(Drop)]
+#[derive(Clone, Copy)]
 pub enum GivenTime {
     Given(TimeOfDay),
     Refused(Refusal),

@@ -5,7 +5,7 @@ use Rattle.satellite.proofs.after.Tie as tie
 
 returns : tie.Need-returns
 unfolding satellite_after
-returns c = let subframes = c.subframes-after.ensures in λ t. record { subframes = subframes t }
+returns c = let subframes = c.subframes_after.ensures in λ t. record { subframes = subframes t }
 
 pub after_spec : {M : Type 1} → statement M
 after_spec = tie.close (tie.spec (λ c κs. tt) returns)

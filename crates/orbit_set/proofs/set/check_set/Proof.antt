@@ -8,29 +8,25 @@ use Rattle.orbit_set.specs.laws.Ways.{check_18, check_19, check_0}
 use Rattle.orbit_set.proofs.set.check_set.Statement.{statement}
 use Rattle.orbit_set.proofs.set.check_set.Tie as tie
 
-returns : tie.Need-returns
+returns : tie.Need-returns-then-not-one_issue
 unfolding given_set_answer
 returns c =
-    let asked = c.before.before in
-    ap refusal_answer c.refusal-by.ensures ∙ sym (check_18 asked.before.args.set (sym asked.one-issue.ensures ∙ not-true _ c.before.if1.true))
+    ap refusal_answer c.refusal_by.ensures ∙ sym (check_18 c.args.set (sym c.one_issue.ensures ∙ c.if-not-one_issue.true))
 
-returns-2 : tie.Need-returns-2
+returns-2 : tie.Need-returns-then-first_health_bit-eq1
 unfolding given_set_answer
 returns-2 c =
-    let second = c.before.before in
-    let first = second.before.before.before in
-    ap refusal_answer c.refusal-by2.ensures
+    ap refusal_answer c.refusal_by-then-first_health_bit-eq1.ensures
     ∙ sym
-    (check_19 first.before.before.args.set (sym first.before.one-issue.ensures ∙ not-false _ first.if1.false)
-    (sym second.before.first-health-bit.ensures ∙ second.if2.true))
+    (check_19 c.args.set (sym c.one_issue.ensures ∙ c.if-not-one_issue.false)
+    (sym c.first_health_bit.ensures ∙ c.if-first_health_bit-eq1.true))
 
-returns-3 : tie.Need-returns-3
+returns-3 : tie.Need-returns
 unfolding given_set_answer
 returns-3 c =
-    let first = c.before.before.before in
     sym
-    (check_0 first.before.before.args.set (sym first.before.one-issue.ensures ∙ not-false _ first.if1.false)
-    (λ e. c.if2.false (c.before.first-health-bit.ensures ∙ e)))
+    (check_0 c.args.set (sym c.one_issue.ensures ∙ c.if-not-one_issue.false)
+    (λ e. c.if-first_health_bit-eq1.false (c.first_health_bit.ensures ∙ e)))
 
 pub check_set_spec : {M : Type 1} → statement M
 check_set_spec =

@@ -7,40 +7,36 @@ use Rattle.orbit_set.specs.Set.{given_set_answer, set_in}
 use Rattle.orbit_set.proofs.set.set_in.Statement.{statement}
 use Rattle.orbit_set.proofs.set.set_in.Tie as tie
 
-returns : tie.Need-returns
+returns : tie.Need-returns-in_default
 unfolding given_set_answer set_in when_held subframe1_in
 returns c =
-    let held = c.before.before.before.args.held in
-    let first = c.before.enum_told.given.1 in
-    ap refusal_answer c.refusal-by.ensures ∙ sym (λ t. set_in (subframe1_in (first t)) (subframe2_in held.subframe2) (subframe3_in held.subframe3))
+    let held = c.args.held in
+    let first = c.in_default.is in
+    ap refusal_answer c.refusal_by.ensures ∙ sym (λ t. set_in (subframe1_in (first t)) (subframe2_in held.subframe2) (subframe3_in held.subframe3))
 
-returns-2 : tie.Need-returns-2
+returns-2 : tie.Need-returns-in_default-held2
 unfolding given_set_answer set_in when_held subframe1_in subframe2_in
 returns-2 c =
-    let one = c.before.before.before.before in
-    let held = one.before.before.args.held in
-    let first = one.held1.given.1 in
-    let second = c.before.enum-told2.given.1 in
-    ap refusal_answer c.refusal-by2.ensures ∙ sym (λ t. set_in (subframe1_in (first t)) (subframe2_in (second t)) (subframe3_in held.subframe3))
+    let held = c.args.held in
+    let first = c.in-Latest.is in
+    let second = c.in_default-held2.is in
+    ap refusal_answer c.refusal_by-in_default-held2.ensures ∙ sym (λ t. set_in (subframe1_in (first t)) (subframe2_in (second t)) (subframe3_in held.subframe3))
 
-returns-3 : tie.Need-returns-3
+returns-3 : tie.Need-returns-in_default-held3
 unfolding given_set_answer set_in when_held subframe1_in subframe2_in subframe3_in
 returns-3 c =
-    let two = c.before.before.before.before in
-    let first = two.before.before.before.held1.given.1 in
-    let second = two.held2.given.1 in
-    let third = c.before.enum-told3.given.1 in
-    ap refusal_answer c.refusal-by3.ensures ∙ sym (λ t. set_in (subframe1_in (first t)) (subframe2_in (second t)) (subframe3_in (third t)))
+    let first = c.in-Latest.is in
+    let second = c.in-Latest-held2.is in
+    let third = c.in_default-held3.is in
+    ap refusal_answer c.refusal_by-in_default-held3.ensures ∙ sym (λ t. set_in (subframe1_in (first t)) (subframe2_in (second t)) (subframe3_in (third t)))
 
-returns-4 : tie.Need-returns-4
+returns-4 : tie.Need-returns
 unfolding set_in when_held subframe1_in subframe2_in subframe3_in
 returns-4 c =
-    let three = c.before.before in
-    let two = three.before.before.before in
-    let first = two.before.before.before.held1.given.1 in
-    let second = two.held2.given.1 in
-    let third = three.held3.given.1 in
-    c.check-set.ensures ∙ sym (λ t. set_in (subframe1_in (first t)) (subframe2_in (second t)) (subframe3_in (third t)))
+    let first = c.in-Latest.is in
+    let second = c.in-Latest-held2.is in
+    let third = c.in-Latest-held3.is in
+    c.check_set.ensures ∙ sym (λ t. set_in (subframe1_in (first t)) (subframe2_in (second t)) (subframe3_in (third t)))
 
 pub set_in_spec : {M : Type 1} → statement M
 set_in_spec =

@@ -12,23 +12,21 @@ use Rattle.pages.specs.laws.After.{stored_under, not_stored}
 use Rattle.pages.proofs.held.with_almanac.Statement.{statement}
 use Rattle.pages.proofs.held.with_almanac.Tie as tie
 
-inside : (c : tie.Else1) → (1 ≤ c.before.before.before.args.page.sv_id) × (c.before.before.before.args.page.sv_id ≤ 32)
-inside c = bounds _ (sym c.before.is-satellite.ensures ∙ not-false _ c.if1.false)
+inside : (c : tie.Else-not-is_satellite) → (1 ≤ c.args.page.sv_id) × (c.args.page.sv_id ≤ 32)
+inside c = bounds _ (sym c.is_satellite.ensures ∙ c.if-not-is_satellite.false)
 
-returns : tie.Need-returns
+returns : tie.Need-returns-then-not-is_satellite
 unfolding pages_after almanac_after utc_after as_almanac as_utc by_kind Option-elim
 returns c =
-    let asked = c.before in
-    let a = asked.before.before.args in
-    let entries = sym (not_stored a.held.almanac a.page (sym asked.is-satellite.ensures ∙ not-true _ c.if1.true)) in
+    let a = c.args in
+    let entries = sym (not_stored a.held.almanac a.page (sym c.is_satellite.ensures ∙ c.if-not-is_satellite.true)) in
     λ t. record { almanac = entries t; utc = a.held.utc }
 
-returns-2 : tie.Need-returns-2
+returns-2 : tie.Need-returns
 unfolding pages_after almanac_after utc_after as_almanac as_utc by_kind Option-elim
 returns-2 c =
-    let asked = c.before.before in
-    let a = asked.before.before.args in
-    let entries = sym (stored_under a.held.almanac a.page (sym asked.is-satellite.ensures ∙ not-false _ c.before.if1.false)) in
+    let a = c.args in
+    let entries = sym (stored_under a.held.almanac a.page (sym c.is_satellite.ensures ∙ c.if-not-is_satellite.false)) in
     λ t. record { almanac = entries t; utc = a.held.utc }
 
 pub with_almanac_spec : {M : Type 1} → statement M

@@ -13,32 +13,29 @@ use Rattle.pages.specs.declared.held.HeldAlmanac.{HeldAlmanac}
 use Rattle.pages.proofs.held.Pages.almanac.Statement.{statement}
 use Rattle.pages.proofs.held.Pages.almanac.Tie as tie
 
-inside : (c : tie.Else1) → (1 ≤ c.before.before.args.id) × (c.before.before.args.id ≤ 32)
-inside c = bounds _ (sym c.before.is-satellite.ensures ∙ not-false _ c.if1.false)
+inside : (c : tie.Else-not-is_satellite) → (1 ≤ c.args.id) × (c.args.id ≤ 32)
+inside c = bounds _ (sym c.is_satellite.ensures ∙ c.if-not-is_satellite.false)
 
-returns : tie.Need-returns
+returns : tie.Need-returns-then-not-is_satellite
 unfolding given_almanac_answer
 returns c =
-    let asked = c.before.before in
-    ap refusal_answer c.refusal-by.ensures
-    ∙ sym (almanac_13 asked.before.args.t1 asked.before.args.id (sym asked.is-satellite.ensures ∙ not-true _ c.before.if1.true))
+    ap refusal_answer c.refusal_by.ensures
+    ∙ sym (almanac_13 c.args.self c.args.id (sym c.is_satellite.ensures ∙ c.if-not-is_satellite.true))
 
-returns-2 : tie.Need-returns-2
+returns-2 : tie.Need-returns-in-Latest
 unfolding given_almanac_answer held_almanac almanac_in empty_entry when_held
 returns-2 c =
-    let asked = c.before.before.before.before.before in
     sym
-    (almanac_held asked.before.args.t1 asked.before.args.id (sym asked.is-satellite.ensures ∙ not-false _ c.before.before.before.before.if1.false)
-    ∙ ap (λ (x : HeldAlmanac). when_held (almanac_in x) 20 0 accepted) c.before.page.given.1)
+    (almanac_held c.args.self c.args.id (sym c.is_satellite.ensures ∙ c.if-not-is_satellite.false)
+    ∙ ap (λ (x : HeldAlmanac). when_held (almanac_in x) 20 0 accepted) c.in-Latest.is)
 
-returns-3 : tie.Need-returns-3
+returns-3 : tie.Need-returns-in-Nothing
 unfolding given_almanac_answer held_almanac almanac_in empty_entry when_held
 returns-3 c =
-    let asked = c.before.before.before.before.before in
-    ap refusal_answer c.refusal-by2.ensures
+    ap refusal_answer c.refusal_by-in-Nothing.ensures
     ∙ sym
-    (almanac_held asked.before.args.t1 asked.before.args.id (sym asked.is-satellite.ensures ∙ not-false _ c.before.before.before.before.if1.false)
-    ∙ ap (λ (x : HeldAlmanac). when_held (almanac_in x) 20 0 accepted) c.before.enum_told.given.1)
+    (almanac_held c.args.self c.args.id (sym c.is_satellite.ensures ∙ c.if-not-is_satellite.false)
+    ∙ ap (λ (x : HeldAlmanac). when_held (almanac_in x) 20 0 accepted) c.in-Nothing.is)
 
 pub almanac_spec : {M : Type 1} → statement M
 almanac_spec =
