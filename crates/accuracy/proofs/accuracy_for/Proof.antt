@@ -8,15 +8,15 @@ use Rattle.accuracy.specs.laws.Accuracy.{mapped_at}
 use Rattle.accuracy.proofs.accuracy_for.Statement.{statement}
 use Rattle.accuracy.proofs.accuracy_for.Tie as tie
 
-returns : tie.Need-returns
+returns : tie.Need-returns-then-ura-lt15
 unfolding predicted accuracy_for tenths
 returns c =
-    let ura = c.before.before.args.ura in
-    rw (lt-ltb ura 15 c.before.if1.true) (ap some (mapped_at nearest_tenths c.metres-table.result tenths _ 0 c.metres-table.ensures ura c.before.if1.true))
+    let ura = c.args.ura in
+    rw (lt-ltb ura 15 c.if-ura-lt15.true) (ap some (mapped_at nearest_tenths c.metres_table.result tenths _ 0 c.metres_table.ensures ura c.if-ura-lt15.true))
 
-returns-2 : tie.Need-returns-2
+returns-2 : tie.Need-returns-else-ura-lt15
 unfolding predicted accuracy_for
-returns-2 c = rw (le-ltb c.before.args.ura 15 c.if1.false)
+returns-2 c = rw (le-ltb c.args.ura 15 c.if-ura-lt15.false)
 
 pub accuracy_for_spec : {M : Type 1} → statement M
 accuracy_for_spec = tie.close (tie.spec (λ c κs. tt) (λ c. search rules) (λ c. search rules) returns returns-2)

@@ -54,10 +54,10 @@ module _ (m : Bits) (a : ℕ) (bits : (i : ℕ) → m i < 2) (low : a < 2) (b : 
       ap₂ ◌&&◌ (eq-eqb _ _ (window_same (suc k) l h 30 (omega arith) ∙ e.0 ∙ sym start-pair.0))
       (eq-eqb _ _ (window_same (suc k) l h 31 (omega arith) ∙ e.1 ∙ sym start-pair.1))
 
-  word_source : (k : ℕ) → 1 ≤ k → k ≤ 10 → (i : ℕ) → 1 ≤ i → i ≤ 24 → NoFiller k i → source_bit (window b k) i ≡ word_source m k i
+  word-source : (k : ℕ) → 1 ≤ k → k ≤ 10 → (i : ℕ) → 1 ≤ i → i ≤ 24 → NoFiller k i → source_bit (window b k) i ≡ word_source m k i
   unfolding source_bit
-  word_source zero l h i u v none = absurd (omega arith)
-  word_source (suc k) l h i u v none =
+  word-source zero l h i u v none = absurd (omega arith)
+  word-source (suc k) l h i u v none =
       ap₂ ◌⊕◌ (window_same (suc k) l h (suc i) (omega arith)) (window_same (suc k) l h 1 (omega arith))
       ∙ (window_carried m a bits low k).source i u v none
 
@@ -68,7 +68,7 @@ module _ (m : Bits) (a : ℕ) (bits : (i : ℕ) → m i < 2) (low : a < 2) (b : 
       let inside : i < 240 = ⊎_elim (λ l. omega arith) (λ l. omega arith) between in
       ap (λ (n : ℕ). get_or (Block.source b) n 0) (sym at)
       ∙ source_at b (1 + i / 24) (omega arith) (omega arith) (1 + i % 24) (omega arith) (omega arith)
-      ∙ word_source (1 + i / 24) (omega arith) (omega arith) (1 + i % 24) (omega arith) (omega arith) no_filler
+      ∙ word-source (1 + i / 24) (omega arith) (omega arith) (1 + i % 24) (omega arith) (omega arith) no_filler
       ∙ ap m at
     where
       no_filler : NoFiller (1 + i / 24) (1 + i % 24)

@@ -12,8 +12,8 @@ use Rattle.clock.proofs.terms.terms_of.Tie as tie
 returns : tie.Need-returns
 unfolding of_bits Terms.terms_of
 returns c =
-    let r = c.before.before.before.before.before.before.before.before.args.r in
-    let at-tgd = c.struct-told4.given.1.1.1.1.1.1.1.1.1.1.1 in
+    let r = c.args.r in
+    let at-tgd = c.struct_told-4-1.given.1.1.1.1.1.1.1.1.1.1.1 in
     let at-af2 = at-tgd.1.1.1 in
     let at-af1 = at-af2.1 in
     let at-af0 = at-af1.1 in

@@ -3,8 +3,8 @@ use mathlib.Core.Path.{◌≡◌, refl, sym, ap, ◌∙◌}
 use mathlib.Core.Option.{Option-elim}
 use Rattle.record.specs.AsKind.{by_kind, as_almanac, as_utc}
 use Rattle.record.specs.declared.record.Record.{Record}
-use Rattle.record.specs.declared.record.Almanac.{Almanac}
-use Rattle.record.specs.declared.record.Utc.{Utc}
+use Rattle.record.specs.declared.record.AlmanacPage.{AlmanacPage}
+use Rattle.record.specs.declared.record.UtcPage.{UtcPage}
 use Rattle.record.specs.declared.record.Record.TheVariants as R
 use Rattle.pages.specs.After.{almanac_after, utc_after, pages_after}
 use Rattle.pages.specs.declared.held.Pages.{Pages}
@@ -19,7 +19,7 @@ unfolding pages_after almanac_after utc_after as_almanac as_utc by_kind Option-e
 returns-in-Utc c =
     sym (ap (pages_after c.args.held) c.in-Utc.is)
 
-unchanged : (held : Pages) (r : Record) → ((x : Almanac) → r ≡ R.Almanac x → ⊥) → ((x : Utc) → r ≡ R.Utc x → ⊥) → held ≡ pages_after held r
+unchanged : (held : Pages) (r : Record) → ((x : AlmanacPage) → r ≡ R.Almanac x → ⊥) → ((x : UtcPage) → r ≡ R.Utc x → ⊥) → held ≡ pages_after held r
 unfolding pages_after almanac_after utc_after as_almanac as_utc by_kind Option-elim
 unchanged held (R.Subframe1 x) n1 n2 = refl
 unchanged held (R.Subframe2 x) n1 n2 = refl

@@ -12,7 +12,7 @@ use Rattle.search.proofs.part.block_at.Tie as tie
 returns : tie.Need-returns
 unfolding block_part
 returns c =
-    let a = c.before.args in
+    let a = c.args in
     let size : a.q + 302 - a.q ≡ 302 = omega arith in
     (ap (λ (n : ℕ). take n (drop a.q a.log.now)) size, ap (λ (offset : ℕ). (a.log.ref_ptr.0, offset)) (add_comm a.q a.log.ref_ptr.1))
 

@@ -15,38 +15,38 @@ use Rattle.utc.specs.Time.{gps_time, offset_at, second_of_day}
 use Rattle.utc.proofs.time.second_of_day.Statement.{statement}
 use Rattle.utc.proofs.time.second_of_day.Tie as tie
 
-module _ (c : tie.After-gps-time) where
+module _ (c : tie.After-gps_time) where
   abbrev page : UtcPage
-  page = c.before.before.args.page
+  page = c.args.page
 
   abbrev week : ℕ
-  week = c.before.before.args.week
+  week = c.args.week
 
   abbrev second : ℕ
-  second = c.before.before.args.second
+  second = c.args.second
 
   gps_le : nat_abs (gps_time week second) ≤ 2597600514983295
   unfolding gps_time
   gps_le = omega arith
 
-  gps_is : Small (to_z w64 (of_z w64 c.gps-time.result)) (gps_time week second) 2597600514983295
-  gps_is = stored w64 (record { is = c.gps-time.ensures; le = gps_le }) (lit< tt)
+  gps_is : Small (to_z w64 (of_z w64 c.gps_time.result)) (gps_time week second) 2597600514983295
+  gps_is = stored w64 (record { is = c.gps_time.ensures; le = gps_le }) (lit< tt)
 
-  offset_is : Small (to_z w32 (of_z w32 c.before.offset_at.result)) (offset_at page week second) 2147483648
+  offset_is : Small (to_z w32 (of_z w32 c.offset_at-offset.result)) (offset_at page week second) 2147483648
   offset_is =
-      let fits : SFits w32 c.before.offset_at.result = search rules in
-      let size = (of_width w32 c.before.offset_at.result fits).le in
+      let fits : SFits w32 c.offset_at-offset.result = search rules in
+      let size = (of_width w32 c.offset_at-offset.result fits).le in
       record {
-        is = to_z-of_z w32 c.before.offset_at.result fits ∙ c.before.offset_at.ensures;
-        le = subst (λ (z : ℤ). nat_abs z ≤ 2147483648) c.before.offset_at.ensures size;
+        is = to_z-of_z w32 c.offset_at-offset.result fits ∙ c.offset_at-offset.ensures;
+        le = subst (λ (z : ℤ). nat_abs z ≤ 2147483648) c.offset_at-offset.ensures size;
       }
 
-  less : Small (to_z w64 (of_z w64 c.gps-time.result) -ℤ to_z w64 (of_z w64 (to_z w32 (of_z w32 c.before.offset_at.result)))) (gps_time week second -ℤ offset_at page week second) 2597602662466943
+  less : Small (to_z w64 (of_z w64 c.gps_time.result) -ℤ to_z w64 (of_z w64 (to_z w32 (of_z w32 c.offset_at-offset.result)))) (gps_time week second -ℤ offset_at page week second) 2597602662466943
   less = difference gps_is (stored w64 offset_is (lit< tt))
 
 returns : tie.Need-returns
 unfolding second_of_day
-returns c = c.modulo-day.ensures ∙ ap (λ (z : ℤ). modulo z 86400) (stored w64 (less c.before) (lit< tt)).is
+returns c = c.modulo_day.ensures ∙ ap (λ (z : ℤ). modulo z 86400) (stored w64 (less c.before) (lit< tt)).is
 
 pub second_of_day_spec : {M : Type 1} → statement M
 second_of_day_spec =

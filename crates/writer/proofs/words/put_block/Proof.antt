@@ -67,59 +67,52 @@ module _ (m : Bits) (bits : (i : ℕ) → m i < 2) (a : ℕ) (start : a < 2) (k 
 
 -- ---- the function
 
-abbrev invariant-loop : tie.invariant-loop
-invariant-loop buf₀ message a window₀ next₀ k₀ buf window next k =
+abbrev invariant-loop-k : tie.invariant-loop-k
+invariant-loop-k buf₀ message a window₀ next₀ k₀ buf window next k =
     (k ≤ 10) × (window / 2 % 2 ≡ window_from (bits_at message 0) a k 30) × (window % 2 ≡ window_from (bits_at message 0) a k 31)
     × Put buf₀ next₀ (tabulate (30 * k) (λ j. block_from (bits_at message 0) a (2 + j))) buf next
 
-abbrev decreases-loop : tie.decreases-loop
-decreases-loop buf₀ message a window₀ next₀ k₀ buf window next k = 10 - k
+abbrev decreases-loop-k : tie.decreases-loop-k
+decreases-loop-k buf₀ message a window₀ next₀ k₀ buf window next k = 10 - k
 
-loop-holds : tie.Need-loop-init invariant-loop decreases-loop
+loop-holds : tie.Need-loop-k-init invariant-loop-k decreases-loop-k
 unfolding window_from tabulate
 loop-holds c =
-    let s = c.before.before.before.before.before in
-    let start = three s.args.a s.requires.0 in
+    let start = three c.args.a c.requires.0 in
     (omega arith, start.0, start.1, put_none _ _)
 
-word-after-requires : tie.Need-word-after-requires invariant-loop decreases-loop
-word-after-requires c κs = (omega arith, (omega arith, c.before.before.before.before.before.before.before.requires.1))
+word-after-requires : tie.Need-word_after-window-requires invariant-loop-k decreases-loop-k
+word-after-requires c κs = (omega arith, (omega arith, c.requires.1))
 
-loop-again : tie.Need-loop-preserved invariant-loop decreases-loop
+loop-again : tie.Need-loop-k-preserved invariant-loop-k decreases-loop-k
 loop-again c =
-    let put = c.before.before in
-    let word = put.before.before in
-    let at = word.before.before in
-    let l = at.loop in
-    let s = at.before.before.before.before.before.before in
-    let m = bits_at s.args.message.now 0 in
-    let next = turn m s.requires.1 s.args.a s.requires.0 l.k l.window word.word_after.result l.invariant.1 l.invariant.2 word.word_after.ensures in
+    let l = c.loop-k in
+    let m = bits_at c.args.message.now 0 in
+    let next = turn m c.requires.1 c.args.a c.requires.0 l.k l.window c.word_after-window.result l.invariant.1 l.invariant.2 c.word_after-window.ensures in
     let size : 30 * l.k + 30 ≡ 30 * (l.k + 1) = omega arith in
-    let block : Bits = λ j. block_from m s.args.a (2 + j) in (
+    let block : Bits = λ j. block_from m c.args.a (2 + j) in (
       omega arith,
       next.0,
       next.1,
-      put_same (put_run (30 * l.k) 30 block (unpack 30 word.word_after.result) l.invariant.3 put.put-bits2.ensures next.2)
+      put_same (put_run (30 * l.k) 30 block (unpack 30 c.word_after-window.result) l.invariant.3 c.put_bits-next-in-loop-k.ensures next.2)
           (ap (λ (n : ℕ). tabulate n block) size),
     )
 
-same_length : tie.Need-same-length invariant-loop decreases-loop
-same_length c = put_length c.before.loop.invariant.3 ∙ put_length c.before.before.before.before.put-bits.ensures
+same_length : tie.Need-shape_of-buf invariant-loop-k decreases-loop-k
+same_length c = put_length c.loop-k.invariant.3 ∙ put_length c.put_bits-next.ensures
 
-returns : tie.Need-returns invariant-loop decreases-loop
+returns : tie.Need-returns invariant-loop-k decreases-loop-k
 returns c =
-    let l = c.before.loop in
-    let first = c.before.before.before.before in
-    let s = first.before.before.before in
-    let m = bits_at s.args.message.now 0 in
-    let a = s.args.a in
+    let l = c.loop-k in
+    let m = bits_at c.args.message.now 0 in
+    let a = c.args.a in
     let all : 30 * l.k ≡ 300 = omega arith in
     let block : Bits = λ j. block_from m a (2 + j) in
     put_run 2 300 (block_from m a) block
-    (put_same first.put-bits.ensures (tabulate-same 2 (unpack 2 (a * 3)) (block_from m a) (start-pair m a s.requires.0)))
+    (put_same c.put_bits-next.ensures (tabulate-same 2 (unpack 2 (a * 3)) (block_from m a) (start-pair m a c.requires.0)))
     (put_same l.invariant.3 (ap (λ (n : ℕ). tabulate n block) all)) (λ j h. refl)
 
 pub put_block_spec : {M : Type 1} → statement M
 put_block_spec =
     tie.close
-    (tie.spec invariant-loop decreases-loop (λ c. omega arith) (λ c κs. omega arith) loop-holds (λ c. omega arith) word-after-requires (λ c κs. omega arith) (λ c. omega arith) (λ c. omega arith) loop-again same_length returns)
+    (tie.spec invariant-loop-k decreases-loop-k (λ c. omega arith) (λ c κs. omega arith) loop-holds (λ c. omega arith) word-after-requires (λ c κs. omega arith) (λ c. omega arith) (λ c. omega arith) loop-again same_length returns)

@@ -48,25 +48,23 @@ module _ (m : List ℕ) (bits : (i : ℕ) → bits_at m 0 i < 2) (k n : ℕ) (e 
         (pack-equal 32 (encode p q (source_of (n / 0x100))) (encode p q (word_source (bits_at m 0) k))
         (encode_same p q (source_of (n / 0x100)) (word_source (bits_at m 0) k) own_source))
 
-returns : tie.Need-returns
+returns : tie.Need-returns-then-has_fillers
 returns c =
-    let s = c.before.before.before.before.before in
-    let a = s.args in
-    let window = c.before.before.before.packed-window in
-    let word : c.encode-ending.result ≡ pack 32 (encode_ending (a.before / 2 % 2) (a.before % 2) (source_of (window.result / 0x100)) a.a a.a) = c.encode-ending.ensures in
+    let a = c.args in
+    let window = c.packed_window-source in
+    let word : c.encode_ending.result ≡ pack 32 (encode_ending (a.before / 2 % 2) (a.before % 2) (source_of (window.result / 0x100)) a.a a.a) = c.encode_ending.ensures in
     word
-    ∙ ending a.message.now s.requires.1.1 a.k window.result window.ensures a.a (a.before / 2 % 2) (a.before % 2)
-    (sym c.before.before.has-fillers.ensures ∙ c.before.if1.true)
+    ∙ ending a.message.now c.requires.1.1 a.k window.result window.ensures a.a (a.before / 2 % 2) (a.before % 2)
+    (sym c.has_fillers.ensures ∙ c.if-has_fillers.true)
 
-returns-2 : tie.Need-returns-2
+returns-2 : tie.Need-returns
 returns-2 c =
-    let s = c.before.before.before.before.before in
-    let a = s.args in
-    let window = c.before.before.before.packed-window in
-    let word : c.encode-word.result ≡ pack 32 (encode (a.before / 2 % 2) (a.before % 2) (source_of (window.result / 0x100))) = c.encode-word.ensures in
+    let a = c.args in
+    let window = c.packed_window-source in
+    let word : c.encode_word.result ≡ pack 32 (encode (a.before / 2 % 2) (a.before % 2) (source_of (window.result / 0x100))) = c.encode_word.ensures in
     word
-    ∙ plain a.message.now s.requires.1.1 a.k window.result window.ensures a.a (a.before / 2 % 2) (a.before % 2)
-    (sym c.before.before.has-fillers.ensures ∙ c.before.if1.false)
+    ∙ plain a.message.now c.requires.1.1 a.k window.result window.ensures a.a (a.before / 2 % 2) (a.before % 2)
+    (sym c.has_fillers.ensures ∙ c.if-has_fillers.false)
 
 pub word_after_spec : {M : Type 1} → statement M
 word_after_spec =

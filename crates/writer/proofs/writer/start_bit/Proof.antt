@@ -5,11 +5,11 @@ use Rattle.block.specs.Polarity.{start_bit}
 use Rattle.writer.proofs.writer.start_bit.Statement.{statement}
 use Rattle.writer.proofs.writer.start_bit.Tie as tie
 
-returns : tie.Need-returns
-returns c = sym (ap start_bit c.enum_told.given.1)
+returns : tie.Need-returns-in-Upright
+returns c = sym (ap start_bit c.in-Upright.is)
 
-returns-2 : tie.Need-returns-2
-returns-2 c = sym (ap start_bit c.enum-told2.given.1)
+returns-2 : tie.Need-returns-in-Inverted
+returns-2 c = sym (ap start_bit c.in-Inverted.is)
 
 pub start_bit_spec : {M : Type 1} → statement M
 start_bit_spec = tie.close (tie.spec (λ c. search rules) (λ c. search rules) returns returns-2)

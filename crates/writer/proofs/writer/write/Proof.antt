@@ -23,48 +23,47 @@ use Rattle.writer.specs.Written.{block_from, block_of}
 use Rattle.writer.proofs.writer.write.Statement.{statement}
 use Rattle.writer.proofs.writer.write.Tie as tie
 
-returns : tie.Need-returns
+returns : tie.Need-returns-then-not-writable
 unfolding checked_answer
 returns c =
-    let a = c.before.before.before.before.args in
-    let way = way_11 a.r a.buf.now (sym c.before.before.writable.ensures ∙ not-true _ c.before.if1.true) in
-    (ap refusal_answer c.refusal-by.ensures ∙ way, sym (after_refusal a.r a.buf.now a.polarity 11 0 (sym way)))
+    let a = c.args in
+    let way = way_11 a.r a.buf.now (sym c.writable.ensures ∙ c.if-not-writable.true) in
+    (ap refusal_answer c.refusal_by.ensures ∙ way, sym (after_refusal a.r a.buf.now a.polarity 11 0 (sym way)))
 
-taken : (c : tie.Else1) → writable c.before.before.before.args.r ≡ true
-taken c = sym c.before.writable.ensures ∙ not-false _ c.if1.false
+taken : (c : tie.Else-not-writable) → writable c.args.r ≡ true
+taken c = sym c.writable.ensures ∙ c.if-not-writable.false
 
-returns-2 : tie.Need-returns-2
+returns-2 : tie.Need-returns-then-buf-lt-BLOCK_BYTES
 unfolding checked_answer
 returns-2 c =
-    let a = c.before.before.before.before.before.args in
-    let way = way_12 a.r a.buf.now (taken c.before.before) c.before.if2.true in
-    (ap refusal_answer c.refusal-by2.ensures ∙ way, sym (after_refusal a.r a.buf.now a.polarity 12 _ (sym way)))
+    let a = c.args in
+    let way = way_12 a.r a.buf.now (taken c.before.before) c.if-buf-lt-BLOCK_BYTES.true in
+    (ap refusal_answer c.refusal_by-then-buf-lt-BLOCK_BYTES.ensures ∙ way, sym (after_refusal a.r a.buf.now a.polarity 12 _ (sym way)))
 
-put-block-requires : tie.Need-put-block-requires
+put-block-requires : tie.Need-put_block-requires
 put-block-requires c κs =
-    let message = c.before.before.before in
-    let a = message.before.before.before.before.before.args in
-    let is = message_list a.r message.message-of.result message.message-of.ensures in
-    (subst (λ (n : ℕ). n < 2) (sym c.start-bit.ensures) (start_bit_lt a.polarity), subst (λ (u : Bits). (i : ℕ) → u i < 2) (sym is) (message_lt a.r))
+    let a = c.args in
+    let is = message_list a.r c.message_of-message.result c.message_of-message.ensures in
+    (subst (λ (n : ℕ). n < 2) (sym c.start_bit.ensures) (start_bit_lt a.polarity), subst (λ (u : Bits). (i : ℕ) → u i < 2) (sym is) (message_lt a.r))
 
 -- the message and the start pair are those of the record's block
 is_block : (r : Record) (polarity : Polarity) (m : List ℕ) (a : ℕ) → m ≡ tabulate 240 (message_of r) → a ≡ start_bit polarity → block_from (bits_at m 0) a ≡ block_of r polarity
 unfolding block_of
 is_block r polarity m a e s = ap₂ block_from (message_list r m e) s
 
-returns-3 : tie.Need-returns-3
+returns-3 : tie.Need-returns
 unfolding checked_answer
 returns-3 c =
     let start = c.before.before.before in
     let message = start.before.before.before in
     let else1 = message.before.before in
-    let a = else1.before.before.before.args in
-    let room : 302 ≤ length a.buf.now = message.before.if2.false in
+    let a = else1.args in
+    let room : 302 ≤ length a.buf.now = message.if-buf-lt-BLOCK_BYTES.false in
     let way = way_0 a.r a.buf.now (taken else1) room in (
       way,
-      put_values 302 _ c.before.before.put-block.ensures room
+      put_values 302 _ c.put_block.ensures room
           ∙ ap (λ (b : Block). tabulate 302 b ++ drop 302 a.buf.now)
-          (is_block a.r a.polarity message.message-of.result start.start-bit.result message.message-of.ensures start.start-bit.ensures)
+          (is_block a.r a.polarity message.message_of-message.result start.start_bit.result message.message_of-message.ensures start.start_bit.ensures)
           ∙ sym (after_writing a.r a.buf.now a.polarity (sym way)),
     )
 
