@@ -11,9 +11,9 @@ use Rattle.collector.proofs.feed.keep.Tie as tie
 returns : tie.Need-returns
 unfolding kept satellite_of empty_satellite
 returns c =
-    let a = c.before.before.before.before.before.args in
-    let satellite = c.before.after.ensures in
-    let pages = c.after2.ensures in
+    let a = c.args in
+    let satellite = c.after.ensures in
+    let pages = c.after-2.ensures in
     λ t. record { satellites = set a.c.satellites (a.n - 1) (satellite t); pages = pages t }
 
 pub keep_spec : {M : Type 1} → statement M

@@ -8,20 +8,19 @@ use Rattle.from_values.proofs.kinds.subframe2_from.Tie as tie
 returns : tie.Need-returns
 unfolding subframe2_from
 returns c =
-    let c10 = c.before in let c9 = c10.before in let c8 = c9.before in let c7 = c8.before in let c6 = c7.before in let c5 = c6.before in let c4 = c5.before in let c3 = c4.before in let c2 = c3.before in let c1 = c2.before in
     λ i. record {
-      header = c1.before.header-from.ensures i;
-      iode = c1.natural-at.ensures i;
-      crs = as_held c2.whole-at.ensures i;
-      delta_n = as_held c3.whole-at2.ensures i;
-      m0 = as_held c4.whole-at3.ensures i;
-      cuc = as_held c5.whole-at4.ensures i;
-      e = c6.natural-at2.ensures i;
-      cus = as_held c7.whole-at5.ensures i;
-      root_a = c8.natural-at3.ensures i;
-      toe = c9.natural-at4.ensures i;
-      fit = c10.natural-at5.ensures i;
-      aodo = c.natural-at6.ensures i;
+      header = c.header_from.ensures i;
+      iode = c.natural_at.ensures i;
+      crs = as_held c.whole_at.ensures i;
+      delta_n = as_held c.whole_at-2.ensures i;
+      m0 = as_held c.whole_at-3.ensures i;
+      cuc = as_held c.whole_at-4.ensures i;
+      e = c.natural_at-2.ensures i;
+      cus = as_held c.whole_at-5.ensures i;
+      root_a = c.natural_at-3.ensures i;
+      toe = c.natural_at-4.ensures i;
+      fit = c.natural_at-5.ensures i;
+      aodo = c.natural_at-6.ensures i;
     }
 
 pub subframe2_from_spec : {M : Type 1} → statement M

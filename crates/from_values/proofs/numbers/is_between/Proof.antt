@@ -14,18 +14,16 @@ use Rattle.from_values.proofs.numbers.is_between.Tie as tie
 as_numbers : (a b : ℤ) → SFits w64 a → SFits w64 b → le_z (to_z w64 (of_z w64 a)) (to_z w64 (of_z w64 b)) ≡ le_z a b
 as_numbers a b h k i = le_z (to_z-of_z w64 a h i) (to_z-of_z w64 b k i)
 
-returns : tie.Need-returns
+returns : tie.Need-returns-then-low-z
 unfolding between
 returns c =
-    let s = c.before in
-    let low : le_z s.args.low s.args.z ≡ true = sym (as_numbers s.args.low s.args.z s.ranges.low s.ranges.z) ∙ c.if1.true in
-    rw low (as_numbers s.args.z s.args.high s.ranges.z s.ranges.high)
+    let low : le_z c.args.low c.args.z ≡ true = sym (as_numbers c.args.low c.args.z c.ranges.low c.ranges.z) ∙ c.if-low-z.true in
+    rw low (as_numbers c.args.z c.args.high c.ranges.z c.ranges.high)
 
-returns-2 : tie.Need-returns-2
+returns-2 : tie.Need-returns
 unfolding between
 returns-2 c =
-    let s = c.before in
-    let low : le_z s.args.low s.args.z ≡ false = sym (as_numbers s.args.low s.args.z s.ranges.low s.ranges.z) ∙ c.if1.false in
+    let low : le_z c.args.low c.args.z ≡ false = sym (as_numbers c.args.low c.args.z c.ranges.low c.ranges.z) ∙ c.if-low-z.false in
     sym (rw low)
 
 pub is_between_spec : {M : Type 1} → statement M

@@ -11,26 +11,26 @@ use Rattle.from_values.specs.FromValues.{between, natural32}
 use Rattle.from_values.proofs.numbers.natural_of.Statement.{statement}
 use Rattle.from_values.proofs.numbers.natural_of.Tie as tie
 
-module _ (c : tie.After-is-between) where
+module _ (c : tie.After-is_between) where
   abbrev z : ℤ
-  z = c.before.args.z
+  z = c.args.z
 
   is : to_z w64 (of_z w64 z) ≡ z
-  is = to_z-of_z w64 z c.before.ranges.z
+  is = to_z-of_z w64 z c.ranges.z
 
-  test : (b : Bool) → c.is-between.result ≡ b → between (pos 0) (pos 4294967295) z ≡ b
-  test b e = sym (c.is-between.ensures ∙ ap (between (pos 0) (pos 4294967295)) is) ∙ e
+  test : (b : Bool) → c.is_between.result ≡ b → between (pos 0) (pos 4294967295) z ≡ b
+  test b e = sym (c.is_between.ensures ∙ ap (between (pos 0) (pos 4294967295)) is) ∙ e
 
-cast-result : tie.Need-overflow-cast-result
-cast-result c = rw (is c.before) (natural_fits (z c.before) (test c.before true c.if1.true))
+cast-result : tie.Need-overflow_cast-result
+cast-result c = rw (is c.before) (natural_fits (z c.before) (test c.before true c.if-is_between.true))
 
-returns : tie.Need-returns
+returns : tie.Need-returns-then-is_between
 unfolding natural32
-returns c = rw (test c.before true c.if1.true) (ap nat_abs (is c.before))
+returns c = rw (test c.before true c.if-is_between.true) (ap nat_abs (is c.before))
 
-returns-2 : tie.Need-returns-2
+returns-2 : tie.Need-returns-else-is_between
 unfolding natural32
-returns-2 c = sym (rw (test c.before false c.if1.false))
+returns-2 c = sym (rw (test c.before false c.if-is_between.false))
 
 pub natural_of_spec : {M : Type 1} → statement M
 natural_of_spec =

@@ -5,13 +5,13 @@ use Rattle.from_values.specs.FromValues.{is_kind_number}
 use Rattle.from_values.proofs.question.is_kind_number.Statement.{statement}
 use Rattle.from_values.proofs.question.is_kind_number.Tie as tie
 
-returns : tie.Need-returns
+returns : tie.Need-returns-then-kind-lt1
 unfolding is_kind_number
-returns c = sym (rw (lt-leb 1 c.before.args.kind c.if1.true))
+returns c = sym (rw (lt-leb 1 c.args.kind c.if-kind-lt1.true))
 
-returns-2 : tie.Need-returns-2
+returns-2 : tie.Need-returns
 unfolding is_kind_number
-returns-2 c = sym (rw (le-leb 1 c.before.args.kind c.if1.false))
+returns-2 c = sym (rw (le-leb 1 c.args.kind c.if-kind-lt1.false))
 
 pub is_kind_number_spec : {M : Type 1} → statement M
 is_kind_number_spec = tie.close (tie.spec returns returns-2)

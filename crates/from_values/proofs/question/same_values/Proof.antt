@@ -16,34 +16,33 @@ use Rattle.from_values.specs.FromValues.{same_values}
 use Rattle.from_values.proofs.question.same_values.Statement.{statement}
 use Rattle.from_values.proofs.question.same_values.Tie as tie
 
-abbrev invariant-loop : tie.invariant-loop
-invariant-loop w v i₀ i = (i ≤ 25) × ((j : ℕ) → j < i → eq_z (get_or v j (pos 0)) (get_or w j (pos 0)) ≡ true)
+abbrev invariant-loop-i : tie.invariant-loop-i
+invariant-loop-i w v i₀ i = (i ≤ 25) × ((j : ℕ) → j < i → eq_z (get_or v j (pos 0)) (get_or w j (pos 0)) ≡ true)
 
-abbrev decreases-loop : tie.decreases-loop
-decreases-loop w v i₀ i = 25 - i
+abbrev decreases-loop-i : tie.decreases-loop-i
+decreases-loop-i w v i₀ i = 25 - i
 
-loop-holds : tie.Need-loop-init invariant-loop decreases-loop
+loop-holds : tie.Need-loop-i-init invariant-loop-i decreases-loop-i
 loop-holds c = (omega arith, below_none _)
 
-returns : tie.Need-returns invariant-loop decreases-loop
+returns : tie.Need-returns-then-v-i invariant-loop-i decreases-loop-i
 unfolding same_values
 returns c =
-    let i = c.before.before.before.before.loop.i in
-    sym (every_below-false 25 _ i (omega arith) (ne_eq_z _ _ (λ e. c.if1.true (ap (of_z w64) e))))
+    let i = c.loop-i.i in
+    sym (every_below-false 25 _ i (omega arith) (ne_eq_z _ _ (λ e. c.if-v-i.true (ap (of_z w64) e))))
 
-loop-again : tie.Need-loop-preserved invariant-loop decreases-loop
+loop-again : tie.Need-loop-i-preserved invariant-loop-i decreases-loop-i
 loop-again c =
-    let at = c.before.before.before.before in
-    let v = get_or at.before.args.t1 at.loop.i (pos 0) in
-    let w = get_or at.before.args.w.now at.loop.i (pos 0) in
-    let same : v ≡ w = same_bits w64 v w (record { sfits = c.before.before.if12.given }) (record { sfits = c.before.if13.given }) c.if1.false in
-    (omega arith, below_more _ at.loop.i at.loop.invariant.1 (eq_eq_z v w same))
+    let v = get_or c.args.v c.loop-i.i (pos 0) in
+    let w = get_or c.args.w.now c.loop-i.i (pos 0) in
+    let same : v ≡ w = same_bits w64 v w (record { sfits = c.t9-1.given }) (record { sfits = c.t13-1.given }) c.if-v-i.false in
+    (omega arith, below_more _ c.loop-i.i c.loop-i.invariant.1 (eq_eq_z v w same))
 
-returns-2 : tie.Need-returns-2 invariant-loop decreases-loop
+returns-2 : tie.Need-returns invariant-loop-i decreases-loop-i
 unfolding same_values
-returns-2 c = sym (every_below-true 25 _ (λ j h. c.before.loop.invariant.1 j (omega arith)))
+returns-2 c = sym (every_below-true 25 _ (λ j h. c.loop-i.invariant.1 j (omega arith)))
 
 pub same_values_spec : {M : Type 1} → statement M
 same_values_spec =
     tie.close
-    (tie.spec invariant-loop decreases-loop loop-holds (λ c. omega arith) (λ c. omega arith) (λ c. omega arith) (λ c. omega arith) returns (λ c. omega arith) (λ c. omega arith) loop-again returns-2)
+    (tie.spec invariant-loop-i decreases-loop-i loop-holds (λ c. omega arith) (λ c. omega arith) (λ c. omega arith) (λ c. omega arith) returns (λ c. omega arith) (λ c. omega arith) loop-again returns-2)

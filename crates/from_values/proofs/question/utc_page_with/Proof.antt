@@ -9,20 +9,17 @@ use Rattle.from_values.specs.FromValues.{having, given_utc_page_answer}
 use Rattle.from_values.proofs.question.utc_page_with.Statement.{statement}
 use Rattle.from_values.proofs.question.utc_page_with.Tie as tie
 
-returns : tie.Need-returns
+returns : tie.Need-returns-then-not-same_values
 unfolding values_of given_utc_page_answer FromValues.utc_page_with having
 returns c =
-    let t = c.before in
-    let d = t.before.before.before in
-    ap refusal_answer c.refusal-by.ensures
-    ∙ sym (line_refuses _ 11 0 _ (values_test values_of_utc d.before.args.v.now d.utc-from.ensures t.before.before.values_of.ensures t.before.same-values.ensures t.if1.true))
+    ap refusal_answer c.refusal_by.ensures
+    ∙ sym (line_refuses _ 11 0 _ (values_test values_of_utc c.args.v.now c.utc_from-r.ensures c.values_of.ensures c.same_values.ensures c.if-not-same_values.true))
 
-returns-2 : tie.Need-returns-2
+returns-2 : tie.Need-returns
 unfolding values_of given_utc_page_answer FromValues.utc_page_with having
 returns-2 c =
-    let d = c.before.before.before in
-    ap accepted d.utc-from.ensures
-    ∙ sym (line-passes _ 11 0 _ (values_test values_of_utc d.before.args.v.now d.utc-from.ensures c.before.before.values_of.ensures c.before.same-values.ensures c.if1.false))
+    ap accepted c.utc_from-r.ensures
+    ∙ sym (line-passes _ 11 0 _ (values_test values_of_utc c.args.v.now c.utc_from-r.ensures c.values_of.ensures c.same_values.ensures c.if-not-same_values.false))
 
 pub utc_page_with_spec : {M : Type 1} → statement M
 utc_page_with_spec =

@@ -18,12 +18,12 @@ use Rattle.listing_text.specs.declared.listing.Listed.TheVariants.{Length}
 use Rattle.listing_text.proofs.listing.list.Statement.{statement}
 use Rattle.listing_text.proofs.listing.list.Tie as tie
 
-returns : tie.Need-returns
+returns : tie.Need-refusal_by-requires
 unfolding listed_answer
 returns c =
-    let a = c.before.before.before.args in
+    let a = c.args in
     let refuses = list_refuses a.log.now (omega arith) in
-    ((ap refusal_answer c.refusal-by.ensures ∙ sym refuses, sym (after_refusal a.log.now a.out.now _ _ refuses)), tt)
+    ((ap refusal_answer c.refusal_by.ensures ∙ sym refuses, sym (after_refusal a.log.now a.out.now _ _ refuses)), tt)
 
 -- the listing at the start of the buffer
 listed : {buffer out : List ℕ} {n : ℕ} (s : List ℕ) → length s ≤ 65536 → 4096 ≤ length buffer → Put buffer 0 (listing s) out n
@@ -35,12 +35,11 @@ listed {buffer} {out} {n} s short room put =
     let inside : n ≤ length out = omega (arith, listing_fits s, put_length put) in
     ((ap accepted size ∙ sym gives, put_first put (omega (arith, listing_fits s)) ∙ sym (after-listing s buffer _ gives)), (inside, sym (length-take-le n out inside)))
 
-returns-2 : tie.Need-returns-2
+returns-2 : tie.Need-returns
 unfolding listing header tabbed ascii
 returns-2 c =
-    let b = c.before.before in
-    let a = b.before.before.before.before.before.args in
-    listed a.log.now (omega arith) (omega arith) (put_more b.put-text.ensures c.put-lines.ensures)
+    let a = c.args in
+    listed a.log.now (omega arith) (omega arith) (put_more c.put_text-start.ensures c.put_lines.ensures)
 
 pub list_spec : {M : Type 1} → statement M
 list_spec =

@@ -17,16 +17,11 @@ line_of p b e f g = cc
 
 returns : tie.Need-returns
 returns c =
-    let put = c.before.before in
-    let l = put.before.before in
-    let pol = l.before in
-    let k = pol.before in
-    let n = k.before in
-    let a = n.before.before.before.args in
+    let a = c.args in
     let b = bits_at a.log.now a.p in
-    let polarity = polarity_by_start b pol.polarity-at.result pol.polarity-at.ensures in
-    put_same put.put-line.ensures
-    (line_of a.p b n.subframe-number-at.ensures k.count_at.ensures (l.letter-of.ensures ∙ ap letter polarity))
+    let polarity = polarity_by_start b c.polarity_at.result c.polarity_at.ensures in
+    put_same c.put_line.ensures
+    (line_of a.p b c.subframe_number_at-number.ensures c.count_at-count.ensures (c.letter_of-letter.ensures ∙ ap letter polarity))
 
 pub put_block_line_spec : {M : Type 1} → statement M
 put_block_line_spec =

@@ -9,12 +9,7 @@ use Rattle.listing_text.proofs.listing.put_line.Tie as tie
 returns : tie.Need-returns
 unfolding line_with tabbed ascii
 returns c =
-    let f = c.before.before in
-    let e = f.before.before.before.before in
-    let d = e.before.before.before.before in
-    let b = d.before.before.before.before in
-    let a = b.before.before.before.before in
-    put_more a.put-field.ensures (put_more b.put-field2.ensures (put_more d.put-field3.ensures (put_more e.put_byte.ensures f.put-byte2.ensures)))
+    put_more c.put_field-second.ensures (put_more c.put_field-third.ensures (put_more c.put_field-last.ensures (put_more c.put_byte.ensures c.put_byte.ensures)))
 
 pub put_line_spec : {M : Type 1} → statement M
 put_line_spec =

@@ -29,53 +29,47 @@ module _ {s first : List ℕ} {start : ℕ} {out : List ℕ} {at p : ℕ} (rest 
   unfolding lines
   done n d e = rest.puts (put_same (put_none out at) (ap (lines s) (sym (walk_none s p n d e))))
 
-abbrev invariant-loop : tie.invariant-loop
-invariant-loop log out₀ start at₀ p₀ out at p = Rest log out₀ start out at p
+abbrev invariant-loop-q : tie.invariant-loop-q
+invariant-loop-q log out₀ start at₀ p₀ out at p = Rest log out₀ start out at p
 
-abbrev decreases-loop : tie.decreases-loop
-decreases-loop log out₀ start at₀ p₀ out at p = length log - p
+abbrev decreases-loop-q : tie.decreases-loop-q
+decreases-loop-q log out₀ start at₀ p₀ out at p = length log - p
 
-loop-holds : tie.Need-loop-init invariant-loop decreases-loop
+loop-holds : tie.Need-loop-q-init invariant-loop-q decreases-loop-q
 loop-holds c = record { puts = λ put. put }
 
 -- ---- a block is found
 
-add-p : tie.Need-overflow-add-p invariant-loop decreases-loop
+add-p : tie.Need-overflow_add-p invariant-loop-q decreases-loop-q
 add-p c =
-    let found = c.before.before.before.before.before in
-    let inside = found_inside _ _ found.before.before.find.ensures found.q.given.1 in
+    let inside = found_inside _ _ c.find.ensures c.in-At.is in
     omega (arith, inside.1)
 
-loop-less : tie.Need-loop-smaller invariant-loop decreases-loop
+loop-less : tie.Need-loop-q-smaller invariant-loop-q decreases-loop-q
 loop-less c =
-    let found = c.before.before.before.before.before in
-    let inside = found_inside _ _ found.before.before.find.ensures found.q.given.1 in
+    let inside = found_inside _ _ c.find.ensures c.in-At.is in
     omega (arith, inside.0, inside.1)
 
-loop-again : tie.Need-loop-preserved invariant-loop decreases-loop
+loop-again : tie.Need-loop-q-preserved invariant-loop-q decreases-loop-q
 loop-again c =
-    let put = c.before.before in
-    let found = put.before.before.before in
-    let f = found.before.before in
-    listed f.before.loop.invariant _ (found_at _ _ f.find.ensures found.q.given.1) put.put-block-line.ensures
+    listed c.loop-q.invariant _ (found_at _ _ c.find.ensures c.in-At.is) c.put_block_line-at.ensures
 
 -- ---- none is found
 
-all_put : (c : tie.After-enum-told invariant-loop decreases-loop) →
-    (let l = c.before.before.before in
-    let a = l.before.before.before.args in
-    Put a.out.now a.start (lines a.log.now (walk a.log.now 0)) l.loop.out l.loop.at)
+all_put : (c : tie.In_default invariant-loop-q decreases-loop-q) →
+    (
+    let a = c.args in
+    Put a.out.now a.start (lines a.log.now (walk a.log.now 0)) c.loop-q.out c.loop-q.at)
 unfolding found_answer
 all_put c =
-    let f = c.before.before in
-    done f.before.loop.invariant _ _ (sym f.find.ensures ∙ ap found_answer c.enum_told.given.1)
+    done c.loop-q.invariant _ _ (sym c.find.ensures ∙ ap found_answer c.in_default.is)
 
 pub put_lines_spec : {M : Type 1} → statement M
 put_lines_spec =
     tie.close
     (tie.spec
-    invariant-loop
-    decreases-loop
+    invariant-loop-q
+    decreases-loop-q
     loop-holds
     (λ c κs. search rules)
     (λ c. search rules)

@@ -7,8 +7,8 @@ use Rattle.collector.proofs.held.Collector.empty.Tie as tie
 returns : tie.Need-returns
 unfolding empty_collector
 returns c =
-    let satellite = c.before.empty.ensures in
-    let pages = c.empty2.ensures in
+    let satellite = c.empty-satellite.ensures in
+    let pages = c.empty.ensures in
     λ t. record { satellites = replicate 32 (satellite t); pages = pages t }
 
 pub empty_spec : {M : Type 1} → statement M

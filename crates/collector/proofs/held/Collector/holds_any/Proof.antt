@@ -8,20 +8,19 @@ use Rattle.collector.specs.laws.Ways.{of_satellite, holds_none, holds_held}
 use Rattle.collector.proofs.held.Collector.holds_any.Statement.{statement}
 use Rattle.collector.proofs.held.Collector.holds_any.Tie as tie
 
-returns : tie.Need-returns
+returns : tie.Need-returns-then-not-is_satellite
 returns c =
-    let asked = c.before in
-    sym (holds_none asked.before.args.self asked.before.args.satellite (sym asked.is-satellite.ensures ∙ not-true _ c.if1.true))
+    sym (holds_none c.args.self c.args.satellite (sym c.is_satellite.ensures ∙ c.if-not-is_satellite.true))
 
-here : (c : tie.Else1) → is_satellite c.before.before.args.satellite ≡ true
-here c = sym c.before.is-satellite.ensures ∙ not-false _ c.if1.false
+here : (c : tie.Else-not-is_satellite) → is_satellite c.args.satellite ≡ true
+here c = sym c.is_satellite.ensures ∙ c.if-not-is_satellite.false
 
-returns-2 : tie.Need-returns-2
+returns-2 : tie.Need-returns
 returns-2 c =
     let found = c.before in
-    let a = found.before.before.before.args in
+    let a = found.args in
     c.any_held.ensures
-    ∙ of_satellite a.self a.satellite any_held found.subframes-of.result found.subframes-of.ensures
+    ∙ of_satellite a.self a.satellite any_held found.subframes_of.result found.subframes_of.ensures
     ∙ sym (holds_held a.self a.satellite (here found.before))
 
 pub holds_any_spec : {M : Type 1} → statement M

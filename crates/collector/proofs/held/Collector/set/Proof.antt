@@ -9,21 +9,20 @@ use Rattle.collector.specs.laws.Ways.{of_satellite, set_13, set_held}
 use Rattle.collector.proofs.held.Collector.set.Statement.{statement}
 use Rattle.collector.proofs.held.Collector.set.Tie as tie
 
-returns : tie.Need-returns
+returns : tie.Need-returns-then-not-is_satellite
 unfolding given_set_answer
 returns c =
-    let asked = c.before.before in
-    ap refusal_answer c.refusal-by.ensures ∙ sym (set_13 asked.before.args.self asked.before.args.satellite (sym asked.is-satellite.ensures ∙ not-true _ c.before.if1.true))
+    ap refusal_answer c.refusal_by.ensures ∙ sym (set_13 c.args.self c.args.satellite (sym c.is_satellite.ensures ∙ c.if-not-is_satellite.true))
 
-here : (c : tie.Else1) → is_satellite c.before.before.args.satellite ≡ true
-here c = sym c.before.is-satellite.ensures ∙ not-false _ c.if1.false
+here : (c : tie.Else-not-is_satellite) → is_satellite c.args.satellite ≡ true
+here c = sym c.is_satellite.ensures ∙ c.if-not-is_satellite.false
 
-returns-2 : tie.Need-returns-2
+returns-2 : tie.Need-returns
 returns-2 c =
     let found = c.before in
-    let a = found.before.before.before.args in
-    c.set-in.ensures
-    ∙ of_satellite a.self a.satellite set_in found.subframes-of.result found.subframes-of.ensures
+    let a = found.args in
+    c.set_in.ensures
+    ∙ of_satellite a.self a.satellite set_in found.subframes_of.result found.subframes_of.ensures
     ∙ sym (set_held a.self a.satellite (here found.before))
 
 pub set_spec : {M : Type 1} → statement M
