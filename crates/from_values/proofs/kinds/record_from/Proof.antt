@@ -9,23 +9,23 @@ use Rattle.from_values.proofs.kinds.record_from.Tie as tie
 
 returns : tie.Need-returns-in-1
 unfolding record_from
-returns c = ap R.Subframe1 c.subframe1_from.ensures ∙ sym (ap (λ (n : ℕ). record_from n c.args.v.now) c.in-1.keys1)
+returns c = ap R.Subframe1 c.subframe1_from.ensures ∙ sym (ap (λ (n : ℕ). record_from n c.args.v.now) c.in-1.is)
 
 returns-2 : tie.Need-returns-in-2
 unfolding record_from
-returns-2 c = ap R.Subframe2 c.subframe2_from.ensures ∙ sym (ap (λ (n : ℕ). record_from n c.args.v.now) c.in-1.keys2)
+returns-2 c = ap R.Subframe2 c.subframe2_from.ensures ∙ sym (ap (λ (n : ℕ). record_from n c.args.v.now) c.in-2.is)
 
 returns-3 : tie.Need-returns-in-3
 unfolding record_from
-returns-3 c = ap R.Subframe3 c.subframe3_from.ensures ∙ sym (ap (λ (n : ℕ). record_from n c.args.v.now) c.in-1.keys3)
+returns-3 c = ap R.Subframe3 c.subframe3_from.ensures ∙ sym (ap (λ (n : ℕ). record_from n c.args.v.now) c.in-3.is)
 
 returns-4 : tie.Need-returns-in-4
 unfolding record_from
-returns-4 c = ap R.Almanac c.almanac_from.ensures ∙ sym (ap (λ (n : ℕ). record_from n c.args.v.now) c.in-1.keys4)
+returns-4 c = ap R.Almanac c.almanac_from.ensures ∙ sym (ap (λ (n : ℕ). record_from n c.args.v.now) c.in-4.is)
 
 returns-5 : tie.Need-returns-in-5
 unfolding record_from
-returns-5 c = ap R.Utc c.utc_from.ensures ∙ sym (ap (λ (n : ℕ). record_from n c.args.v.now) c.in-1.keys5)
+returns-5 c = ap R.Utc c.utc_from.ensures ∙ sym (ap (λ (n : ℕ). record_from n c.args.v.now) c.in-5.is)
 
 returns-6 : tie.Need-returns-in_default
 unfolding record_from

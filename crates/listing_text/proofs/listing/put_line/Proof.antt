@@ -9,7 +9,7 @@ use Rattle.listing_text.proofs.listing.put_line.Tie as tie
 returns : tie.Need-returns
 unfolding line_with tabbed ascii
 returns c =
-    put_more c.put_field-second.ensures (put_more c.put_field-third.ensures (put_more c.put_field-last.ensures (put_more c.put_byte.ensures c.put_byte.ensures)))
+    put_more c.put_field-second.ensures (put_more c.put_field-third.ensures (put_more c.put_field-last.ensures (put_more c.put_byte-end.ensures c.put_byte.ensures)))
 
 pub put_line_spec : {M : Type 1} → statement M
 put_line_spec =

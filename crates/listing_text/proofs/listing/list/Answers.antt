@@ -1,10 +1,9 @@
--- `list` meets its contract: an overlong log is refused; else the header and the lines are put, and all of it fits.
+-- `list` meets its contract.
 use mathlib.Core.Path.{◌≡◌, sym, ap, ◌∙◌}
 use mathlib.Core.List.{List}
 use Prim.Native.Nat.{ℕ, ◌≤◌}
 use native.Mathlib.Nat.{zero-add}
 use native.Mathlib.Omega.{arith}
-use borrow.Author.Rules.{rules}
 use lib.ListN.{length}
 use lib.Seq.{length-take-le}
 use Rattle.answer.specs.Answer.{accepted, refusal_answer}
@@ -15,15 +14,17 @@ use Rattle.listing_text.specs.Listing as Listing
 use Rattle.listing_text.specs.Listing.{header, listing, buffer_after, listed_answer, Lendable}
 use Rattle.listing_text.specs.laws.Listing.{list_refuses, list_gives, after_refusal, after-listing, listing_fits}
 use Rattle.listing_text.specs.declared.listing.Listed.TheVariants.{Length}
-use Rattle.listing_text.proofs.listing.list.Statement.{statement}
-use Rattle.listing_text.proofs.listing.list.Tie as tie
+use Rattle.listing_text.proofs.listing.list.Goals as goal
 
-returns : tie.Need-refusal_by-requires
+pub returns-then-log-gt-LOG_LIMIT : goal.returns-then-log-gt-LOG_LIMIT
 unfolding listed_answer
-returns c =
+returns-then-log-gt-LOG_LIMIT c =
     let a = c.args in
     let refuses = list_refuses a.log.now (omega arith) in
-    ((ap refusal_answer c.refusal_by.ensures ∙ sym refuses, sym (after_refusal a.log.now a.out.now _ _ refuses)), tt)
+    record {
+      result_value = (ap refusal_answer c.refusal_by.ensures ∙ sym refuses, sym (after_refusal a.log.now a.out.now _ _ refuses));
+      lendable = tt;
+    }
 
 -- the listing at the start of the buffer
 listed : {buffer out : List ℕ} {n : ℕ} (s : List ℕ) → length s ≤ 65536 → 4096 ≤ length buffer → Put buffer 0 (listing s) out n
@@ -35,19 +36,9 @@ listed {buffer} {out} {n} s short room put =
     let inside : n ≤ length out = omega (arith, listing_fits s, put_length put) in
     ((ap accepted size ∙ sym gives, put_first put (omega (arith, listing_fits s)) ∙ sym (after-listing s buffer _ gives)), (inside, sym (length-take-le n out inside)))
 
-returns-2 : tie.Need-returns
+pub returns : goal.returns
 unfolding listing header tabbed ascii
-returns-2 c =
+returns c =
     let a = c.args in
-    listed a.log.now (omega arith) (omega arith) (put_more c.put_text-start.ensures c.put_lines.ensures)
-
-pub list_spec : {M : Type 1} → statement M
-list_spec =
-    tie.close
-    (tie.spec
-    (λ c κs. search rules)
-    returns
-    (λ c. search rules)
-    (λ c κs. search rules)
-    (λ c κs. search rules)
-    returns-2)
+    let all = listed a.log.now (omega arith) (omega arith) (put_more c.put_text-start.ensures c.put_lines.ensures) in
+    record { result_value = all.0; lendable = all.1 }
