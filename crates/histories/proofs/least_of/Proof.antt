@@ -5,13 +5,13 @@ use Rattle.finite.specs.Least.{least}
 use Rattle.histories.proofs.least_of.Statement.{statement}
 use Rattle.histories.proofs.least_of.Tie as tie
 
-returns : tie.Need-returns
+returns : tie.Need-returns-then-a-b
 unfolding least
-returns c = sym (rw (lt-ltb c.before.args.a c.before.args.b c.if1.true))
+returns c = sym (rw (lt-ltb c.args.a c.args.b c.if-a-b.true))
 
-returns-2 : tie.Need-returns-2
+returns-2 : tie.Need-returns-else-a-b
 unfolding least
-returns-2 c = sym (rw (le-ltb c.before.args.a c.before.args.b c.if1.false))
+returns-2 c = sym (rw (le-ltb c.args.a c.args.b c.if-a-b.false))
 
 pub least_of_spec : {M : Type 1} → statement M
 least_of_spec = tie.close (tie.spec returns returns-2)
