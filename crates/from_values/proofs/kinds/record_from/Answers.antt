@@ -30,5 +30,5 @@ returns-in-5 c = ap R.Utc c.utc_from.ensures ∙ sym (ap (λ (n : ℕ). record_f
 pub returns-in_default : goal.returns-in_default
 unfolding record_from
 returns-in_default c =
-    rw (ne_eqb _ 1 (λ e. omega arith), ne_eqb _ 2 (λ e. omega arith), ne_eqb _ 3 (λ e. omega arith), ne_eqb _ 4 (λ e. omega arith), ne_eqb _ 5 (λ e. omega arith))
+    rw (ne_eqb c.args.kind 1 (λ e. omega arith), ne_eqb c.args.kind 2 (λ e. omega arith), ne_eqb c.args.kind 3 (λ e. omega arith), ne_eqb c.args.kind 4 (λ e. omega arith), ne_eqb c.args.kind 5 (λ e. omega arith))
     (ap R.Other c.other_from.ensures)
