@@ -1,4 +1,5 @@
 // The inputs that are open: a file that is run stands above the input that runs it.
+ghost use Rattle.std.specs.Prelude.{◌≡◌};
 ghost use Rattle.io.specs.Counts.{IsPrefixLen};
 
 use crate::help::RUN;
