@@ -5,15 +5,20 @@
 use listing_text::Listed;
 use std::io::Error;
 
+// The system's reason in the text of an error, without the error's number.
+fn reason_in(text: &str) -> &str {
+    match text.split_once(" (os error ") {
+        Some((reason, _)) => reason,
+        None => text,
+    }
+}
+
 // Writes a line to standard error: what failed, and the system's reason.
 fn fail<R: Eprint + Alloc>(rt: &R, what: &str, error: &Error) {
     let Ok(text) = error.to_string(rt.alloc()) else {
         return;
     };
-    let reason = match text.split_once(" (os error ") {
-        Some((reason, _)) => reason,
-        None => text.as_str(),
-    };
+    let reason = reason_in(&text);
     let _ = eprintln!(rt; "{what}: {reason}");
 }
 
