@@ -1,4 +1,6 @@
 // What the commands print: of logs, blocks and words; of feeds and of the collector's answers; and of what is worked out of records.
+#![tactic(auto)]
+
 mod feeds;
 mod log;
 mod questions;

@@ -1,4 +1,6 @@
 // What programs print.
+#![tactic(auto)]
+
 mod output;
 mod refusals;
 

@@ -1,12 +1,17 @@
 // Text and numbers on standard output, and messages on standard error.
-use libc::{STDERR_FILENO, STDOUT_FILENO};
+
+// The descriptor of standard output.
+const STDOUT: i32 = 1;
+
+// The descriptor of standard error.
+const STDERR: i32 = 2;
 
 pub fn print(text: &[u8]) {
-    io::write_all(STDOUT_FILENO, text);
+    io::write_all(STDOUT, text);
 }
 
 pub fn print_number(n: u64) {
-    io::print_decimal(STDOUT_FILENO, n);
+    io::print_decimal(STDOUT, n);
 }
 
 pub fn print_byte(byte: u8) {
@@ -56,8 +61,8 @@ pub fn print_bits(bits: &[u8]) {
 
 // A message and the line that it is about, on standard error.
 pub fn complain(message: &[u8], line: &[u8]) {
-    io::write_all(STDERR_FILENO, message);
-    io::write_all(STDERR_FILENO, b": ");
-    io::write_all(STDERR_FILENO, line);
-    io::write_all(STDERR_FILENO, b"\n");
+    io::write_all(STDERR, message);
+    io::write_all(STDERR, b": ");
+    io::write_all(STDERR, line);
+    io::write_all(STDERR, b"\n");
 }

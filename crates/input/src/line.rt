@@ -1,6 +1,8 @@
 // The lines of an input.
 ghost use Rattle.io.specs.Counts.{IsPrefixLen};
 
+use std::io::Read;
+
 // How a line ended: by a line feed, by the end of the input, or not within the buffer.
 #[derive(Drop)]
 pub enum LineEnd {
@@ -23,20 +25,19 @@ enum Byte {
 }
 
 // The next byte of an input. A read that fails counts as the input's end.
-fn read_byte(fd: i32) -> Byte {
+fn read_byte<R: Read>(reader: &mut R) -> Byte {
     let mut byte = [0u8; 1];
-    let got = libc::read(fd, &mut byte);
-    if got < 1 {
-        return Byte::End;
+    match reader.read(&mut byte) {
+        Ok(1) => Byte::Of(byte[0]),
+        _ => Byte::End,
     }
-    Byte::Of(byte[0])
 }
 
 // Reads to the end of the line. Nothing says that an input ends, so the turns are counted, from a number that no run uses up.
-fn skip_line(fd: i32) {
+fn skip_line<R: Read>(reader: &mut R) {
     let mut turns = u64::MAX;
     while turns > 0 {
-        let Byte::Of(b) = read_byte(fd) else {
+        let Byte::Of(b) = read_byte(reader) else {
             return;
         };
         if b == b'\n' {
@@ -47,12 +48,12 @@ fn skip_line(fd: i32) {
 }
 
 // Reads a line into the buffer. What is longer than the buffer is skipped.
-pub fn read_line(fd: i32, buf: &mut [u8]) -> Line
+pub fn read_line<R: Read>(reader: &mut R, buf: &mut [u8]) -> Line
     ensures { IsPrefixLen result.length buf.new }
 {
     let mut n: usize = 0;
     while n < buf.len() {
-        let Byte::Of(b) = read_byte(fd) else {
+        let Byte::Of(b) = read_byte(reader) else {
             return Line {
                 length: n,
                 end: LineEnd::End,
@@ -67,7 +68,7 @@ pub fn read_line(fd: i32, buf: &mut [u8]) -> Line
         buf[n] = b;
         n += 1;
     }
-    skip_line(fd);
+    skip_line(reader);
     Line {
         length: n,
         end: LineEnd::TooLong,

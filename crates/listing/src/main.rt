@@ -1,36 +1,55 @@
 // Document 01's listing program: reads a log from standard input, a byte 0 or 1 for each received bit, and prints a line for each accepted
 // block on the walk. Where standard input cannot be read, or standard output not written, it says so on standard error.
-use libc::{STDIN_FILENO, STDOUT_FILENO};
-use listing_text::Listed;
+#![tactic(auto)]
 
-fn print(text: &[u8]) {
-    if !io::write_all(STDOUT_FILENO, text) {
-        os::fail(b"standard output");
+use listing_text::Listed;
+use std::io::Error;
+
+// The system's reason in the text of an error, without the error's number.
+fn reason_in(text: &str) -> &str {
+    match text.split_once(" (os error ") {
+        Some((reason, _)) => reason,
+        None => text,
     }
 }
 
-fn print_refusal(number: u8) {
+// Writes a line to standard error: what failed, and the system's reason.
+fn fail<R: Eprint + Alloc>(rt: &R, what: &str, error: &Error) {
+    let Ok(text) = error.to_string(rt.alloc()) else {
+        return;
+    };
+    let reason = reason_in(&text);
+    let _ = eprintln!(rt; "{what}: {reason}");
+}
+
+fn print<R: Print + Eprint + Alloc>(rt: &R, text: &[u8]) {
+    if let Err(error) = rt.write_all(text) {
+        fail(rt, "standard output", &error);
+    }
+}
+
+fn print_refusal<R: Print + Eprint + Alloc>(rt: &R, number: u8) {
     let mut line = io::buffer();
     let n = text::put_refusal(&mut line, 0, number);
-    print(&line[..n]);
+    print(rt, &line[..n]);
 }
 
 // Prints the listing of a log, or the line of its refusal.
-fn print_listing(log: &[u8]) {
+fn print_listing<R: Print + Eprint + Alloc>(rt: &R, log: &[u8]) {
     let mut text = io::buffer();
     match listing_text::list(log, &mut text) {
-        Listed::Length(n) => print(&text[..n]),
-        Listed::Refused(r) => print_refusal(r.number),
+        Listed::Length(n) => print(rt, &text[..n]),
+        Listed::Refused(r) => print_refusal(rt, r.number),
     }
 }
 
-fn main() {
+fn main(rt: HostRuntime) {
     let mut log = input::log_buffer();
-    let input = input::read_log(STDIN_FILENO, &mut log);
-    if input.failed {
-        os::fail(b"standard input");
+    let input = input::read_log(&mut rt.stdin(), &mut log);
+    if let Some(error) = input.error {
+        fail(&rt, "standard input", &error);
         return;
     }
     let n = input.length;
-    print_listing(&log[..n]);
+    print_listing(&rt, &log[..n]);
 }

@@ -5,12 +5,19 @@ use crate::questions::answer;
 use crate::request::Request;
 use crate::written::Block;
 use collector::Collector;
+use std::rt::Files;
 
 // The collector after a command. The commands up to `feed-all` are those on a log.
-pub(crate) fn held_after(c: Collector, request: Request, line: &[u8], block: Block) -> Collector {
+pub(crate) fn held_after<R: Files>(
+    rt: &R,
+    c: Collector,
+    request: Request,
+    line: &[u8],
+    block: Block,
+) -> Collector {
     let command = request.command;
     if command <= FEED_ALL {
-        return on_log(c, request, line, block);
+        return on_log(rt, c, request, line, block);
     }
     if command == FORGET {
         return Collector::empty();

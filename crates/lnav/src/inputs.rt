@@ -1,57 +1,92 @@
 // The inputs that are open: a file that is run stands above the input that runs it.
+ghost use Rattle.std.specs.Prelude.{◌≡◌};
 ghost use Rattle.io.specs.Counts.{IsPrefixLen};
 
 use crate::help::RUN;
 use crate::messages::{LINE_TOO_LONG, NOT_READ, TOO_MANY_FILES, complain};
 use crate::request::Request;
 use input::{Line, LineEnd};
+use std::env::Env;
+use std::fs::File;
+use std::rt::Files;
 
-// Stands for a descriptor: the program's arguments are an input of one line.
-pub(crate) const ARGUMENTS: i32 = -2;
+// Where lines are read from. The program's arguments are an input of one line. A closed input has no line.
+#[derive(Drop)]
+pub(crate) enum Source {
+    Arguments,
+    Standard,
+    Opened(File),
+    Closed,
+}
 
-// Descriptors, of which the last is read.
+// Open inputs, of which the last is read.
 #[derive(Drop)]
 pub(crate) struct Inputs {
-    pub(crate) descriptors: [i32; 8],
+    pub(crate) sources: [Source; 8],
     pub(crate) depth: usize,
 }
 
-pub(crate) fn only(fd: i32) -> Inputs {
+pub(crate) fn only(source: Source) -> Inputs {
     Inputs {
-        descriptors: [fd; 8],
+        sources: [
+            source,
+            Source::Closed,
+            Source::Closed,
+            Source::Closed,
+            Source::Closed,
+            Source::Closed,
+            Source::Closed,
+            Source::Closed,
+        ],
         depth: 1,
     }
 }
 
-// The descriptor that is read. With none it is -1, from which nothing can be read.
-fn current(inputs: Inputs) -> i32 {
+// The input that is read, where there is one.
+fn current(inputs: &mut Inputs) -> Option<&mut Source> {
     let depth = inputs.depth;
     if depth == 0 {
-        return -1;
+        return None;
     }
-    if 8 < depth {
-        return -1;
+    inputs.sources.get_mut(depth - 1)
+}
+
+// What is read of an input that has no line left.
+fn no_line() -> Line
+    ensures { result.length ≡ 0 }
+{
+    Line {
+        length: 0,
+        end: LineEnd::End,
     }
-    inputs.descriptors[depth - 1]
+}
+
+// Reads a line of an input.
+fn line_of<R: Env + Input>(rt: &R, source: &mut Source, buf: &mut [u8]) -> Line
+    ensures { IsPrefixLen result.length buf.new }
+{
+    match source {
+        Source::Arguments => Line {
+            length: input::arguments(rt, buf),
+            end: LineEnd::End,
+        },
+        Source::Standard => input::read_line(&mut rt.reader(), buf),
+        Source::Opened(file) => input::read_line(file, buf),
+        Source::Closed => no_line(),
+    }
 }
 
 // Reads a line of the last input. One that is too long is told of, and counts as an empty one.
-pub(crate) fn next_line(inputs: Inputs, buf: &mut [u8]) -> Line
+pub(crate) fn next_line<R: Env + Input>(rt: &R, inputs: &mut Inputs, buf: &mut [u8]) -> Line
     ensures { IsPrefixLen result.length buf.new }
 {
-    let fd = current(inputs);
-    if fd == ARGUMENTS {
-        return Line {
-            length: input::arguments(buf),
-            end: LineEnd::End,
-        };
-    }
-    let line = input::read_line(fd, buf);
-    let n = line.length;
-    let end = line.end;
-    match end {
+    let line = match current(inputs) {
+        Some(source) => line_of(rt, source, buf),
+        None => no_line(),
+    };
+    match line.end {
         LineEnd::TooLong => {
-            complain(LINE_TOO_LONG, &buf[..n]);
+            complain(LINE_TOO_LONG, &buf[..line.length]);
             Line {
                 length: 0,
                 end: LineEnd::Feed,
@@ -61,47 +96,45 @@ pub(crate) fn next_line(inputs: Inputs, buf: &mut [u8]) -> Line
     }
 }
 
-// The inputs after a line was read: at the end of one, the one before it goes on.
-pub(crate) fn after_line(inputs: Inputs, end: LineEnd) -> Inputs {
+// After a line was read: at the end of an input it is closed, and the one before it goes on.
+pub(crate) fn after_line(inputs: &mut Inputs, end: LineEnd) {
     let depth = inputs.depth;
     let LineEnd::End = end else {
-        return inputs;
+        return;
     };
     if depth == 0 {
-        return inputs;
+        return;
     }
-    libc::close(current(inputs));
-    let descriptors = inputs.descriptors;
-    Inputs {
-        descriptors,
-        depth: depth - 1,
+    if let Some(source) = current(inputs) {
+        *source = Source::Closed;
     }
+    inputs.depth = depth - 1;
 }
 
-// The inputs with the file that a line runs: its lines are done before those that are left.
-fn run(inputs: Inputs, line: &[u8]) -> Inputs {
+// Opens the file that a line runs: its lines are done before those that are left.
+fn run<R: Files<File = File>>(rt: &R, inputs: &mut Inputs, line: &[u8]) {
     let depth = inputs.depth;
-    let mut descriptors = inputs.descriptors;
     if 7 < depth {
         complain(TOO_MANY_FILES, line);
-        return inputs;
+        return;
     }
-    let fd = os::open_read(lines::word(line, 1));
-    if fd < 0 {
-        complain(NOT_READ, line);
-        return inputs;
-    }
-    descriptors[depth] = fd;
-    Inputs {
-        descriptors,
-        depth: depth + 1,
+    match input::open_file(rt, lines::word(line, 1)) {
+        Ok(file) => {
+            inputs.sources[depth] = Source::Opened(file);
+            inputs.depth = depth + 1;
+        }
+        Err(_) => complain(NOT_READ, line),
     }
 }
 
 // The inputs after a command.
-pub(crate) fn inputs_after(inputs: Inputs, request: Request, line: &[u8]) -> Inputs {
+pub(crate) fn inputs_after<R: Files<File = File>>(
+    rt: &R,
+    inputs: &mut Inputs,
+    request: Request,
+    line: &[u8],
+) {
     if request.command == RUN {
-        return run(inputs, line);
+        run(rt, inputs, line);
     }
-    inputs
 }

@@ -7,6 +7,7 @@ use collector::Collector;
 use console::print_refusal;
 use listing_text::Listed;
 use search::Found;
+use std::rt::Files;
 
 fn print_refusal_line(number: u8) {
     let mut line = io::buffer();
@@ -61,9 +62,15 @@ fn feed_all(first: Collector, log: &[u8], satellite: usize) -> Collector {
 }
 
 // Does a command on the log that the line names, and gives the collector after it.
-pub(crate) fn on_log(c: Collector, request: Request, line: &[u8], block: Block) -> Collector {
+pub(crate) fn on_log<R: Files>(
+    rt: &R,
+    c: Collector,
+    request: Request,
+    line: &[u8],
+    block: Block,
+) -> Collector {
     let mut log = input::log_buffer();
-    let input = put_log(line, block, &mut log);
+    let input = put_log(rt, line, block, &mut log);
     if input.failed {
         return c;
     }

@@ -5,7 +5,7 @@ use crate::messages::{NO_NUMBER, TOO_MANY_WORDS, complain};
 use digits::Number;
 
 // A command, the word at which a record stands, or 0 where the line has none, and up to two numbers.
-#[derive(Drop)]
+#[derive(Clone, Copy)]
 pub(crate) struct Request {
     pub(crate) command: usize,
     pub(crate) record: usize,

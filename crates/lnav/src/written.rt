@@ -10,7 +10,7 @@ use from_values::GivenRecord;
 use record::Record;
 
 // A block, where one is written.
-#[derive(Drop)]
+#[derive(Clone, Copy)]
 pub(crate) struct Block {
     pub(crate) bits: [u8; 302],
     pub(crate) is_written: bool,

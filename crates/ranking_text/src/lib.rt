@@ -1,4 +1,6 @@
 // The ranking of a collector's satellites as text: a line for each whose set can be given, then the others with the reason.
+#![tactic(auto)]
+
 use accuracy::{GivenAccuracy, UserRangeAccuracy};
 use answer::Refusal;
 use collector::Collector;

@@ -1,7 +1,9 @@
 // Numbers that are no whole ones, as exact decimals.
 use console::{print, print_byte, print_number, space};
 use integers::absolute;
-use libc::STDOUT_FILENO;
+
+// The descriptor of standard output.
+const STDOUT: i32 = 1;
 
 // Ten times n, or 0 where that does not fit: a fraction of at most 60 binary digits always does.
 fn times_ten(n: u64) -> u64 {
@@ -122,7 +124,7 @@ pub fn print_double(x: f64, unit: &[u8]) {
     space();
     print(unit);
     space();
-    io::print_hex(STDOUT_FILENO, bits, 16);
+    io::print_hex(STDOUT, bits, 16);
 }
 
 // Prints a double from 1 to 2^53 rounded to the tenth, a half upwards, without a tenth that is 0.

@@ -1,4 +1,6 @@
 // A record, and numbers with a scale, as text.
+#![tactic(auto)]
+
 mod decimals;
 mod print;
 mod table;

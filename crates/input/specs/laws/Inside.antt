@@ -1,5 +1,5 @@
 -- Laws. Bytes that are counted stay inside their buffer.
-use Rattle.std.specs.Prelude.{◌≡◌, List, ℕ, ◌≤◌, length}
+use Rattle.std.specs.Prelude.{List, ℕ, ◌≤◌, length}
 use Rattle.std.proofs.Common.{sym, length-take-le}
 use Rattle.io.specs.Counts.{IsPrefixLen}
 

@@ -3,13 +3,13 @@ use Rattle.std.proofs.Common.{◌-◌, ◌≤◌, length, rules}
 use Rattle.lnav.proofs.given.place_of.Statement.{statement}
 use Rattle.lnav.proofs.given.place_of.Tie as tie
 
-abbrev invariant-loop : tie.invariant-loop
-invariant-loop text byte i₀ i = i ≤ length text
+abbrev invariant-loop-i : tie.invariant-loop-i
+invariant-loop-i text byte i₀ i = i ≤ length text
 
-abbrev decreases-loop : tie.decreases-loop
-decreases-loop text byte i₀ i = length text - i
+abbrev decreases-loop-i : tie.decreases-loop-i
+decreases-loop-i text byte i₀ i = length text - i
 
 pub place_of_spec : {M : Type 1} → statement M
 place_of_spec =
     tie.close
-    (tie.spec invariant-loop decreases-loop (λ c. search rules) (λ c. search rules) (λ c. search rules) (λ c. search rules) (λ c. search rules) (λ c. search rules) (λ c. search rules))
+    (tie.spec invariant-loop-i decreases-loop-i (λ c. search rules) (λ c. search rules) (λ c. search rules) (λ c. search rules) (λ c. search rules) (λ c. search rules) (λ c. search rules))

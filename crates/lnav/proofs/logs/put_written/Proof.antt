@@ -5,8 +5,8 @@ use Rattle.input.specs.laws.Inside.{counts}
 use Rattle.lnav.proofs.logs.put_written.Statement.{statement}
 use Rattle.lnav.proofs.logs.put_written.Tie as tie
 
-returns-2 : tie.Need-returns-2
-returns-2 c = counts _ _ (put_inside c.before.before.put-text.ensures (omega arith))
+returns-2 : tie.Need-returns
+returns-2 c = counts _ _ (put_inside c.put_text-length.ensures (omega arith))
 
 pub put_written_spec : {M : Type 1} → statement M
 put_written_spec =

@@ -12,4 +12,4 @@ is_number (inf s) e = tt
 is_number (fin s m e) h = tt
 
 pub pattern_spec : {M : Type 1} → statement M
-pattern_spec = tie.close (tie.spec (λ c. is_number c.before.args.x c.if1.true) (λ c. search rules) (λ c. search rules))
+pattern_spec = tie.close (tie.spec (λ c. is_number c.args.x c.if-x.true) (λ c. search rules) (λ c. search rules))

@@ -3,8 +3,8 @@ use Rattle.std.proofs.Common.{lt_of_le_of_lt, mul-le-mul, lit<, rules}
 use Rattle.record_text.proofs.decimals.print_product.Statement.{statement}
 use Rattle.record_text.proofs.decimals.print_product.Tie as tie
 
-mul-print-number : tie.Need-overflow-mul-print-number
-mul-print-number c = record { fits = lt_of_le_of_lt (mul-le-mul c.before.if1.false c.if2.false) (lit< tt) }
+mul-print-number : tie.Need-overflow_mul-n
+mul-print-number c = record { fits = lt_of_le_of_lt (mul-le-mul c.if-n-gt4294967295.false c.if-factor-gt4294967295.false) (lit< tt) }
 
 pub print_product_spec : {M : Type 1} → statement M
 print_product_spec =

@@ -3,13 +3,13 @@ use Rattle.std.proofs.Common.{◌-◌, rules}
 use Rattle.record_text.proofs.print.print_numbers.Statement.{statement}
 use Rattle.record_text.proofs.print.print_numbers.Tie as tie
 
-abbrev invariant-loop : tie.invariant-loop
-invariant-loop kind is-long numbers i₀ i = Unit {0}
+abbrev invariant-loop-i : tie.invariant-loop-i
+invariant-loop-i kind is-long numbers i₀ i = Unit {0}
 
-abbrev decreases-loop : tie.decreases-loop
-decreases-loop kind is-long numbers i₀ i = 25 - i
+abbrev decreases-loop-i : tie.decreases-loop-i
+decreases-loop-i kind is-long numbers i₀ i = 25 - i
 
 pub print_numbers_spec : {M : Type 1} → statement M
 print_numbers_spec =
     tie.close
-    (tie.spec invariant-loop decreases-loop (λ c. search rules) (λ c. search rules) (λ c. search rules) (λ c. search rules) (λ c. search rules) (λ c. search rules) (λ c κs. search rules) (λ c. search rules) (λ c. search rules) (λ c. search rules) (λ c. search rules))
+    (tie.spec invariant-loop-i decreases-loop-i (λ c. search rules) (λ c. search rules) (λ c. search rules) (λ c. search rules) (λ c. search rules) (λ c. search rules) (λ c κs. search rules) (λ c. search rules) (λ c. search rules) (λ c. search rules) (λ c. search rules))
