@@ -1,5 +1,7 @@
 // The block check, the search, the reader, the writer and the listing for callers in C and Rust: functions over numbers and slices, with the
 // answers as plain structs. `bindings/c/lnav.h` declares them.
+#![tactic(auto)]
+
 mod blocks;
 mod listing;
 

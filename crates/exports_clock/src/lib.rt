@@ -1,4 +1,6 @@
 // Clock terms, accuracy and time for callers in C and Rust. `bindings/c/lnav.h` declares them.
+#![tactic(auto)]
+
 mod clock_questions;
 mod time_question;
 
