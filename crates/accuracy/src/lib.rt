@@ -1,4 +1,6 @@
 // The accuracy that a subframe 1 states by its URA index.
+#![tactic(auto)]
+
 ghost use Rattle.std.specs.Prelude.{◌≡◌, map};
 ghost use Rattle.accuracy.specs.Accuracy as Accuracy;
 ghost use Rattle.accuracy.specs.Accuracy.{predicted, tenths, nearest_tenths, accuracy_for, given_accuracy_answer};

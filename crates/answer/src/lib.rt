@@ -1,4 +1,6 @@
 // What a call that may refuse answers: the refusal that all such calls share, and the answer of those that give no value.
+#![tactic(auto)]
+
 ghost use Rattle.std.specs.Prelude.{◌≡◌};
 ghost use Rattle.answer.specs.Answer as Answer;
 

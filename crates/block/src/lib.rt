@@ -1,4 +1,6 @@
 // The block: its size, what it says of itself, its subframe number, count and polarity, and the syndromes of its words.
+#![tactic(auto)]
+
 mod bounds;
 mod handover;
 mod polarity;

@@ -1,4 +1,6 @@
 // Seconds of the day, and times of day: what the UTC time of day is made of.
+#![tactic(auto)]
+
 ghost use Rattle.std.specs.Prelude.{◌≡◌};
 ghost use Rattle.integers.specs.Whole.{modulo};
 ghost use Rattle.day.specs.Day.{time_at};

@@ -1,4 +1,6 @@
 // The numbers that a text writes in decimal digits.
+#![tactic(auto)]
+
 mod answers;
 mod numbers;
 

@@ -1,4 +1,6 @@
 // The record that has given values, for callers that have no structs of ours.
+#![tactic(auto)]
+
 mod kinds;
 mod numbers;
 mod question;

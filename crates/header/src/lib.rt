@@ -1,4 +1,6 @@
 // The header of a record, from the numbers that stand in its fields and back to them.
+#![tactic(auto)]
+
 ghost use Rattle.std.specs.Prelude.{◌≡◌};
 ghost use Rattle.layout.specs.Table as Table;
 ghost use Rattle.layout.specs.Table.{values_from};

@@ -1,4 +1,6 @@
 // The collector as a history: blocks of one log are fed one after the other to the empty collector.
+#![tactic(auto)]
+
 ghost use Rattle.std.specs.Prelude.{◌≡◌};
 ghost use Rattle.finite.specs.Least.{least};
 ghost use Rattle.histories.specs.History.{reached};

@@ -1,4 +1,6 @@
 // Whole numbers with sign, and as the machine holds them: definitions and laws (specs/), and the absolute value.
+#![tactic(auto)]
+
 ghost use Rattle.std.specs.Prelude.{◌≡◌, nat_abs};
 
 // The absolute value. That of -2^63 is no i64, so 1 is added after the sign is turned.

@@ -1,4 +1,6 @@
 // Which kind a record is of: document 01's choice by subframe number, data ID and ID; and the number of a kind.
+#![tactic(auto)]
+
 mod kind;
 mod number;
 

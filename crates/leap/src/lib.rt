@@ -1,4 +1,6 @@
 // The leap moment that WNLSF and DN of a UTC page give, as seen from a full week.
+#![tactic(auto)]
+
 ghost use Rattle.std.specs.Prelude.{◌≡◌};
 ghost use Rattle.layout.specs.Field.{signed};
 ghost use Rattle.leap.specs.Leap.{week_difference, leap_moment};

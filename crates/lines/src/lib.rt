@@ -1,4 +1,6 @@
 // A line of text as words, and a table as lines.
+#![tactic(auto)]
+
 mod names;
 mod words;
 

@@ -1,4 +1,6 @@
 // The listing of a log (document 01, 'Listing program'), put into the caller's buffer.
+#![tactic(auto)]
+
 mod listing;
 
 pub use listing::{Listed, list};

@@ -1,4 +1,6 @@
 // The message of a record: its 240 source bits, with 0 for each filler.
+#![tactic(auto)]
+
 ghost use Rattle.std.specs.Prelude.{◌≡◌};
 ghost use Rattle.finite.specs.Tabulate.{tabulate};
 ghost use Rattle.text.specs.Put.{Put};

@@ -1,4 +1,6 @@
 // The numbers that stand in a record's fields.
+#![tactic(auto)]
+
 mod kinds;
 mod unsigned;
 

@@ -1,4 +1,6 @@
 // The parity of a word (document 000, 20.3.5): the check, the syndrome, the source bits, the window that they take, and the bits of a log.
+#![tactic(auto)]
+
 mod check;
 mod source;
 mod syndrome;

@@ -1,4 +1,6 @@
 // Whether the block check accepts, answered fast: at most places the preamble or the start pair already excludes it.
+#![tactic(auto)]
+
 ghost use Rattle.std.specs.Prelude.{◌≡◌, ◌+◌, ◌<◌, ◌≤◌, length};
 ghost use Rattle.bits.specs.Bits.{bits_at};
 ghost use Rattle.block_check.specs.Check.{accepted_at};

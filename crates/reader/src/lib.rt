@@ -1,4 +1,6 @@
 // The reader: the record of the block at a place of a log.
+#![tactic(auto)]
+
 mod numbers;
 mod reader;
 

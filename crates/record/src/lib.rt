@@ -1,4 +1,6 @@
 // The records of the message: the six kinds, and the widths of their fields.
+#![tactic(auto)]
+
 mod kind;
 mod record;
 mod tables;

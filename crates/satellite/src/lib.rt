@@ -1,4 +1,6 @@
 // One satellite: what is held of it, and what a record of its own does to that.
+#![tactic(auto)]
+
 ghost use Rattle.std.specs.Prelude.{◌≡◌};
 ghost use Rattle.satellite.specs.Satellite.{empty_satellite, subframes_after, satellite_after};
 

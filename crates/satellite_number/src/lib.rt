@@ -1,4 +1,6 @@
 // The numbers of satellites, which SV IDs share.
+#![tactic(auto)]
+
 ghost use Rattle.std.specs.Prelude.{◌≡◌};
 ghost use Rattle.satellite_number.specs.Numbers as Numbers;
 

@@ -1,4 +1,6 @@
 // The search: the first block of a log that the block check accepts, as its place and as a part of the caller's log.
+#![tactic(auto)]
+
 mod part;
 mod place;
 

@@ -1,4 +1,6 @@
 // The answer as C has it, of a call that gives no value: number and detail, 0 and 0 where the call is accepted.
+#![tactic(auto)]
+
 ghost use Rattle.std.specs.Prelude.{◌≡◌};
 ghost use Rattle.answer.specs.Answer.{checked_answer};
 ghost use Rattle.told.specs.Told as Told;

@@ -1,4 +1,6 @@
 // Which records the writer takes: number 11 refuses all others.
+#![tactic(auto)]
+
 ghost use Rattle.std.specs.Prelude.{◌≡◌, ℕ, ◌≤◌, ◌^◌, ltb, get_or};
 ghost use Rattle.layout.specs.internal.Table.{all_fit};
 ghost use Rattle.layout.specs.Layout.{all_within};

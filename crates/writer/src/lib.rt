@@ -1,4 +1,6 @@
 // The writer: the block of a record.
+#![tactic(auto)]
+
 mod words;
 mod writer;
 
