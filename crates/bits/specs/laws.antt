@@ -1,9 +1,3 @@
 -- Laws about the definitions of this crate.
 pub mod Places
-pub mod Xor
-pub mod Pack
-pub mod Parts
 pub mod Weight
-pub mod Columns
-pub mod Distance
-pub mod Masks

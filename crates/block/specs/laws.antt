@@ -1,6 +1,5 @@
 -- Laws about the definitions of this crate.
 pub mod Polarity
 pub mod Windows
-pub mod Source
 pub mod Packed
 pub mod Syndrome

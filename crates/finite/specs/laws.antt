@@ -3,4 +3,3 @@ pub mod Booleans
 pub mod Every
 pub mod First
 pub mod Least
-pub mod Tabulate

@@ -1,6 +1,5 @@
 -- Laws about the definitions of this crate.
 pub mod Sizes
-pub mod Modulo
 pub mod Machine
 pub mod BySign
 pub mod Shift

@@ -1,6 +1,5 @@
--- The files of this folder: definitions; internal, definitions that only private contracts cite; laws about them.
+-- The files of this folder: definitions; internal, definitions that only private contracts cite.
 pub mod Field
 pub mod Layout
 pub mod Table
 pub mod internal
-pub mod laws

@@ -1,4 +1,3 @@
--- The files of this folder: definitions; internal, definitions that only private contracts cite; laws about them.
+-- The files of this folder: definitions; internal, definitions that only private contracts cite.
 pub mod Words
 pub mod internal
-pub mod laws

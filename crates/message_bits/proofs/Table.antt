@@ -10,7 +10,7 @@ use Rattle.bits.specs.Bits.{Bits}
 use Rattle.layout.specs.Layout.{Layout, Values, encode}
 use Rattle.layout.specs.Table.{widths, numbers, offset}
 use Rattle.record.specs.Fields.{Sound}
-use Rattle.record.specs.laws.Sound.{table-size, table-encode}
+use Rattle.record.proofs.laws.Sound.{table-size, table-encode}
 
 module _ (n : ℕ) (l : Layout) (sound : Sound n l) (ws : List ℕ) (e : ws ≡ widths 19 l) where
   pub table_put : (v : Values l) (ns : List ℕ) → ns ≡ numbers 19 l v → {s t : List ℕ} {at next : ℕ}

@@ -1,5 +1,4 @@
 -- Laws about the definitions of this crate.
 pub mod Ways
 pub mod Placed
-pub mod Sets
 pub mod Answers

@@ -2,7 +2,4 @@
 pub mod Linear
 pub mod Local
 pub mod Equations
-pub mod Inverse
-pub mod Flips
 pub mod OneWord
-pub mod OneFlip

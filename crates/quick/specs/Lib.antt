@@ -1,3 +1,2 @@
--- The files of this folder: internal, definitions that only private contracts cite; laws about them.
+-- The files of this folder: internal, definitions that only private contracts cite.
 pub mod internal
-pub mod laws

@@ -7,12 +7,12 @@ use Rattle.std.specs.Float.Ieee.{size, round, fits, to_bits}
 use Rattle.finite.specs.Every.{every_below}
 use Rattle.finite.specs.laws.Every.{every_below_at}
 use Rattle.layout.specs.Field.{within}
-use Rattle.layout.specs.laws.Layout.{each_within}
+use Rattle.layout.proofs.laws.Layout.{each_within}
 use Rattle.doubles.specs.Nearest.{IsNearest}
-use Rattle.doubles.specs.laws.Nearest.{halfway, is_rounded, is_rounded_nearest}
+use Rattle.doubles.proofs.laws.Nearest.{halfway, is_rounded, is_rounded_nearest}
 use Rattle.record.specs.Fields.{subframe1_fields}
 use Rattle.record.specs.Record.{subframe1_values}
-use Rattle.record.specs.laws.Taken.{taken}
+use Rattle.record.proofs.laws.Taken.{taken}
 use Rattle.record.specs.Writable.{writable}
 use Rattle.record.specs.declared.record.Subframe1.{Subframe1}
 use Rattle.record.specs.declared.record.Record.TheVariants as R

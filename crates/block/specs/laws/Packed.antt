@@ -4,9 +4,9 @@ use Rattle.std.proofs.Math.Path.{ap}
 use Rattle.std.proofs.Common.{◌∙◌, arith}
 use Rattle.bits.specs.Bits.{Same, bits_at, pack, unpack}
 use Rattle.bits.specs.laws.Places.{bits_at-later}
-use Rattle.bits.specs.laws.Xor.{odd_only}
-use Rattle.bits.specs.laws.Pack.{pack-equal, unpack-pack}
-use Rattle.bits.specs.laws.Parts.{pack_part}
+use Rattle.bits.proofs.laws.Xor.{odd_only}
+use Rattle.bits.proofs.laws.Pack.{pack-equal, unpack-pack}
+use Rattle.bits.proofs.laws.Parts.{pack_part}
 use Rattle.parity.specs.Word.{source_bit, source_bits, syndrome, passes}
 use Rattle.parity.specs.laws.Local.{syndrome_local, syndrome_packed, passes_local, passes_packed}
 use Rattle.block.specs.Block.{window, field}

@@ -1,9 +1,9 @@
 -- Laws. The same 240 source bits, word by word.
 use Rattle.std.specs.Prelude.{◌≡◌, List, ◌↔◌, ℕ, ◌+◌, ◌-◌, ◌*◌, ◌/◌, ◌%◌, get_or}
 use Rattle.std.proofs.Common.{sym, ap, ◌∙◌, arith}
-use Rattle.finite.specs.laws.Tabulate.{tabulate-same}
+use Rattle.finite.proofs.laws.Tabulate.{tabulate-same}
 use Rattle.block.specs.Block.{Block, source}
-use Rattle.block.specs.laws.Source.{source_at}
+use Rattle.block.proofs.laws.Source.{source_at}
 use Rattle.block_check.specs.Compare.{SameWords}
 
 pub source-words : (b c : Block) → (source b ≡ source c) ↔ SameWords b c

@@ -4,13 +4,13 @@ use Rattle.std.proofs.Common.{arith, ltb-true, pow_mono}
 use Rattle.std.specs.Int.Signed.{mag, nat_abs-le}
 use Rattle.clock.specs.Terms as Terms
 use Rattle.layout.specs.Field.{half, is_signed, within}
-use Rattle.layout.specs.laws.Layout.{each_within}
+use Rattle.layout.proofs.laws.Layout.{each_within}
 use Rattle.doubles.specs.Scaled.{scaled}
 use Rattle.doubles.specs.Exact.{IsExactly}
-use Rattle.doubles.specs.laws.Patterns.{scaled_exactly}
+use Rattle.doubles.proofs.laws.Patterns.{scaled_exactly}
 use Rattle.record.specs.Fields.{subframe1_fields}
 use Rattle.record.specs.Record.{subframe1_values}
-use Rattle.record.specs.laws.Taken.{taken}
+use Rattle.record.proofs.laws.Taken.{taken}
 use Rattle.record.specs.Writable.{writable}
 use Rattle.record.specs.declared.record.Subframe1.{Subframe1}
 use Rattle.record.specs.declared.record.Record.TheVariants as R

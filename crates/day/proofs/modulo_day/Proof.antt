@@ -9,7 +9,7 @@ use mir.Syntax.{w32, w64}
 use mir.Val.{Fits, to_z, of_z}
 use mir.ValLaws.{to_z-of_z}
 use Rattle.integers.specs.Whole.{modulo}
-use Rattle.integers.specs.laws.Modulo.{modulo_lt}
+use Rattle.integers.proofs.laws.Modulo.{modulo_lt}
 use Rattle.integers.specs.laws.Machine.{Small, sum, literal, stored, fits_of, cast-of}
 use Rattle.day.specs.laws.Remainder.{quotient_mag, rest-small, rest_below, rest_from}
 use Rattle.day.proofs.modulo_day.Statement.{statement}

@@ -12,13 +12,13 @@ use Rattle.parity.specs.Word.{source_bit}
 use Rattle.block.specs.Block.{Block, window, field, source}
 use Rattle.block.specs.Polarity.{start_bit, polarity_of}
 use Rattle.block.specs.laws.Polarity.{polarity_by_start}
-use Rattle.block.specs.laws.Source.{source-bit}
+use Rattle.block.proofs.laws.Source.{source-bit}
 use Rattle.block.specs.declared.polarity.Polarity.{Polarity}
 use Rattle.block_check.specs.Check as Check
 use Rattle.block_check.specs.Compare.{Accepted, Stands, Equal, Inverse, Flipped, FewFlips, lowest_touched, flips_answer}
-use Rattle.block_check.specs.laws.Acceptance.{acceptance}
-use Rattle.block_check.specs.laws.Flips.{flips_refused, lowest}
-use Rattle.block_check.specs.laws.Uniqueness.{uniqueness}
+use Rattle.block_check.proofs.laws.Acceptance.{acceptance}
+use Rattle.block_check.proofs.laws.Flips.{flips_refused, lowest}
+use Rattle.block_check.proofs.laws.Uniqueness.{uniqueness}
 use Rattle.search.specs.Search as Search
 use Rattle.search.specs.Search.{first_place, NoneFrom}
 use Rattle.search.specs.laws.Search.{finds_none}
@@ -26,7 +26,7 @@ use Rattle.listing_text.specs.Listing as Listing
 use Rattle.listing_text.specs.laws.Listing as Listed
 use Rattle.record.specs.Source.{record_of, header_bits, record_bits}
 use Rattle.record.specs.Writable.{writable}
-use Rattle.record.specs.laws.Held.{header-bits, record-bits}
+use Rattle.record.proofs.laws.Held.{header-bits, record-bits}
 use Rattle.record.specs.declared.record.Subframe1.{Subframe1}
 use Rattle.record.specs.declared.record.Subframe2.{Subframe2}
 use Rattle.record.specs.declared.record.Subframe3.{Subframe3}

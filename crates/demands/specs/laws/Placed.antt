@@ -7,7 +7,7 @@ use Rattle.answer.specs.Answer.{accepted}
 use Rattle.bits.specs.Bits.{bits_at}
 use Rattle.parity.specs.Word.{source_bit}
 use Rattle.block.specs.Block.{Block, window, field, source}
-use Rattle.block.specs.laws.Source.{source_at, source-field}
+use Rattle.block.proofs.laws.Source.{source_at, source-field}
 use Rattle.record.specs.Source.{record_of}
 use Rattle.record.specs.laws.Placed.{ura_placed, iodc_low_placed, iode_2_placed, iode_3_placed}
 use Rattle.record.specs.declared.record.Subframe1.{Subframe1}

@@ -8,15 +8,15 @@ use borrow.Author.Tests.{lt-ltb, le-ltb}
 use lib.Dec.{ltb, lit<}
 use lib.Pow.{shr-shr}
 use Rattle.bits.specs.Bits.{◌⊕◌, Bits, pack, unpack}
-use Rattle.bits.specs.laws.Pack.{pack-equal, pack_lowest, unpack-pack}
-use Rattle.bits.specs.laws.Parts.{pack-append}
+use Rattle.bits.proofs.laws.Pack.{pack-equal, pack_lowest, unpack-pack}
+use Rattle.bits.proofs.laws.Parts.{pack-append}
 use Rattle.parity.specs.Table.{line}
 use Rattle.parity.specs.Word.{Window, source_bit, source_bits, parity_bit, failure, syndrome}
 use Rattle.parity.specs.laws.Local.{Agree, line-bit, parity_bit_agree}
 use Rattle.parity.specs.laws.OneWord.{by_fillers}
 use Rattle.encoder.specs.Encode.{source_of, data_bits, encode, with_fillers}
-use Rattle.encoder.specs.laws.Encode.{encode_data, encode_parity}
-use Rattle.encoder.specs.laws.Fillers.{fillers_keep}
+use Rattle.encoder.proofs.laws.Encode.{encode_data, encode_parity}
+use Rattle.encoder.proofs.laws.Fillers.{fillers_keep}
 
 zeros : pack 6 (λ k. 0) ≡ 0
 unfolding pack

@@ -9,14 +9,14 @@ use Rattle.std.specs.Int.{w32}
 use Rattle.finite.specs.laws.Booleans.{and_true}
 use Rattle.layout.specs.Field.{Field, u, s, width, Value, half, is_signed, unsigned, within}
 use Rattle.layout.specs.Layout.{Layout, widths1to32, Values, all_within}
-use Rattle.layout.specs.laws.Field.{unsigned_lt}
-use Rattle.layout.specs.laws.Layout.{widths1to32-first, each_within}
-use Rattle.layout.specs.laws.Signs.{unsigned_outside, unsigned-within}
+use Rattle.layout.proofs.laws.Field.{unsigned_lt}
+use Rattle.layout.proofs.laws.Layout.{widths1to32-first, each_within}
+use Rattle.layout.proofs.laws.Signs.{unsigned_outside, unsigned-within}
 use Rattle.record.specs.Fields.{header_fields, fields_of}
 use Rattle.record.specs.Record.{header_of, subframe1_of, subframe2_of, subframe3_of, almanac_of, utc_of, other_of, kind_of, header, header_values, almanac_values, field_values}
-use Rattle.record.specs.laws.Returned.{with_af0}
-use Rattle.record.specs.laws.Sound.{header_sound, fields_sound}
-use Rattle.record.specs.laws.Taken.{Taken, taken}
+use Rattle.record.proofs.laws.Returned.{with_af0}
+use Rattle.record.proofs.laws.Sound.{header_sound, fields_sound}
+use Rattle.record.proofs.laws.Taken.{Taken, taken}
 use Rattle.record.specs.Writable.{writable}
 use Rattle.record.specs.declared.kind.Kind.TheVariants.{Subframe1, Subframe2, Subframe3, Almanac, Utc, Other}
 use Rattle.record.specs.declared.record.Subframe1 as S

@@ -9,7 +9,7 @@ use Rattle.answer.specs.laws.Lines.{line_accepts, accepted_injective, refused_no
 use Rattle.finite.specs.laws.Every.{every_below-true, every_below_at}
 use Rattle.finite.specs.laws.Booleans.{is_true}
 use Rattle.integers.specs.Whole.{eq_z}
-use Rattle.integers.specs.laws.Modulo.{eq_eq_z, eq_z-true}
+use Rattle.integers.proofs.laws.Modulo.{eq_eq_z, eq_z-true}
 use Rattle.record.specs.declared.record.Subframe1.{Subframe1}
 use Rattle.record.specs.declared.record.UtcPage.{UtcPage}
 use Rattle.record.specs.declared.record.Record.{Record}

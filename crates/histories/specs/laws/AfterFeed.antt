@@ -11,7 +11,7 @@ use Rattle.std.proofs.Math.Seq.{get_or-set_other}
 use Rattle.finite.specs.laws.Booleans.{and_true}
 use Rattle.answer.specs.Answer.{Answer, accepted, refused, value}
 use Rattle.answer.specs.laws.Lines.{line_accepts}
-use Rattle.record.specs.laws.Taken.{taken}
+use Rattle.record.proofs.laws.Taken.{taken}
 use Rattle.record.specs.AsKind.{by_kind, as_subframe1, as_subframe2, as_subframe3, as_almanac, as_utc}
 use Rattle.record.specs.Kind.{is_page, is_almanac}
 use Rattle.record.specs.Writable.{of_its_kind}

@@ -7,7 +7,7 @@ use Rattle.bits.specs.Bits.{bits_at}
 use Rattle.answer.specs.Answer.{refused, refuse_if}
 use Rattle.block_check.specs.Check as Check
 use Rattle.block_check.specs.Compare.{Accepted, Stands, Inverse, FewFlips, differing, flips_answer, lowest_touched}
-use Rattle.block_check.specs.laws.Flips.{different_refused}
+use Rattle.block_check.proofs.laws.Flips.{different_refused}
 use Rattle.reader.specs.laws.Reader.{reads_refusal}
 use Rattle.reader.specs.laws.SameRecord.{inverse_record}
 use Rattle.satellite_number.specs.Numbers.{is_satellite}

@@ -10,7 +10,7 @@ use Rattle.record.specs.declared.record.Subframe1.{Subframe1}
 use Rattle.record.specs.declared.record.Record.{Record}
 use Rattle.orbit_set.specs.Held.{subframe1_in, subframe2_in, subframe3_in}
 use Rattle.orbit_set.specs.Set.{first_health_bit, set_in}
-use Rattle.orbit_set.specs.laws.Sets.{set_is}
+use Rattle.orbit_set.proofs.laws.Sets.{set_is}
 use Rattle.orbit_set.specs.declared.set.OrbitSet.{OrbitSet}
 use Rattle.satellite_number.specs.Numbers.{is_satellite}
 use Rattle.satellite_number.specs.laws.Numbers.{bounds}

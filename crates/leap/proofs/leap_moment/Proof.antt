@@ -2,7 +2,7 @@
 use Rattle.std.proofs.Common.{ℕ, ◌<◌, ◌≤◌, pos, ◌+ℤ◌, ◌*ℤ◌, lt_of_le_of_lt, arith, lit<, w64, to_z, of_z, rules}
 use Rattle.integers.specs.laws.Machine.{Small, natural, literal, sum, product, stored, fits_of}
 use Rattle.leap.specs.Leap.{leap_week, leap_moment}
-use Rattle.leap.specs.laws.Leap.{difference_size}
+use Rattle.leap.proofs.laws.Leap.{difference_size}
 use Rattle.leap.proofs.leap_moment.Statement.{statement}
 use Rattle.leap.proofs.leap_moment.Tie as tie
 

@@ -1,7 +1,7 @@
 -- `signed_byte` meets its contract: where the highest bit is 1, the number less 256.
 use Rattle.std.proofs.Common.{ℕ, ◌<◌, pos, ◌-ℤ◌, sym, ◌∙◌, arith, lit<, w64, to_z, rules}
 use Rattle.integers.specs.laws.Machine.{Small, natural, literal, difference, stored, fits_of}
-use Rattle.layout.specs.laws.Signs.{signed_low, signed_less}
+use Rattle.layout.proofs.laws.Signs.{signed_low, signed_less}
 use Rattle.leap.proofs.signed_byte.Statement.{statement}
 use Rattle.leap.proofs.signed_byte.Tie as tie
 

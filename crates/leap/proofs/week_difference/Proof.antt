@@ -3,7 +3,7 @@ use Rattle.std.proofs.Common.{◌%◌, ap, ◌∙◌, arith, w64, rules}
 use mir.ValLaws.{to_z-of_z}
 use Rattle.layout.specs.Field.{signed}
 use Rattle.leap.specs.Leap.{week_difference}
-use Rattle.leap.specs.laws.Leap.{wraps_back}
+use Rattle.leap.proofs.laws.Leap.{wraps_back}
 use Rattle.leap.proofs.week_difference.Statement.{statement}
 use Rattle.leap.proofs.week_difference.Tie as tie
 

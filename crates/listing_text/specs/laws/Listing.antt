@@ -11,7 +11,7 @@ use borrow.Author.Tests.{lt-ltb, le-ltb, ltb-false}
 use Rattle.std.proofs.Math.Dec.{ltb}
 use Rattle.std.proofs.Math.ListN.{length, length-append}
 use Rattle.bits.specs.Bits.{bits_at}
-use Rattle.bits.specs.laws.Pack.{pack_lt}
+use Rattle.bits.proofs.laws.Pack.{pack_lt}
 use Rattle.text.specs.Text.{ascii, decimal, tabbed}
 use Rattle.text.specs.laws.Text.{decimal-short, tabbed-last, tabbed_more}
 use Rattle.answer.specs.Answer.{accepted, refused, ByNumber, refuse_if, from_value}

@@ -6,7 +6,7 @@ use Rattle.answer.specs.Answer.{accepted, refused}
 use Rattle.answer.specs.laws.Lines.{refused_not}
 use Rattle.block_check.specs.Compare.{Accepted}
 use Rattle.block_check.specs.laws.Answers.{accepted_at-true, accepted_at-false}
-use Rattle.block_check.specs.laws.Acceptance.{acceptance}
+use Rattle.block_check.proofs.laws.Acceptance.{acceptance}
 use Rattle.search.specs.Search as Search
 use Rattle.search.specs.Search.{first_place, NoneFrom}
 use Rattle.search.specs.laws.Search.{way_10, way_0, finds, finds_none}

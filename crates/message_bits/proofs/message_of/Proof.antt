@@ -6,7 +6,7 @@ use native.Mathlib.Omega.{arith}
 use borrow.Author.Rules.{rules}
 use lib.ListN.{length}
 use Rattle.finite.specs.Tabulate.{tabulate}
-use Rattle.finite.specs.laws.Tabulate.{tabulate-same, tabulate-length}
+use Rattle.finite.proofs.laws.Tabulate.{tabulate-same, tabulate-length}
 use Rattle.text.specs.Put.{Put}
 use Rattle.text.specs.laws.Put.{put_same, put_all, put_run}
 use Rattle.bits.specs.Bits.{unpack}

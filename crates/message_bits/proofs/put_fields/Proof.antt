@@ -4,7 +4,7 @@ use borrow.Author.Rules.{rules}
 use Rattle.layout.specs.Table.{widths}
 use Rattle.record.specs.Fields.{fields_of}
 use Rattle.record.specs.Record.{kind_of, field_values}
-use Rattle.record.specs.laws.Sound.{fields_sound}
+use Rattle.record.proofs.laws.Sound.{fields_sound}
 use Rattle.record.specs.Source.{record_bits}
 use Rattle.record.specs.declared.kind.Kind.{Kind}
 use Rattle.message_bits.proofs.Table.{table_put}

@@ -2,7 +2,7 @@
 use borrow.Author.Rules.{rules}
 use Rattle.record.specs.Fields.{header_fields}
 use Rattle.record.specs.Record.{header, header_values}
-use Rattle.record.specs.laws.Sound.{header_sound}
+use Rattle.record.proofs.laws.Sound.{header_sound}
 use Rattle.record.specs.Source.{header_bits}
 use Rattle.message_bits.proofs.Table.{table_put}
 use Rattle.message_bits.proofs.put_header.Statement.{statement}

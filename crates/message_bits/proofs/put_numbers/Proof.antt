@@ -9,7 +9,7 @@ use Rattle.text.specs.Put.{Put}
 use Rattle.text.specs.laws.Put.{put_none, put_same, put_length, put_run}
 use Rattle.bits.specs.Bits.{Bits, unpack}
 use Rattle.layout.specs.Table.{offset}
-use Rattle.layout.specs.laws.Table.{offset_more}
+use Rattle.layout.proofs.laws.Table.{offset_more}
 use Rattle.message_bits.proofs.put_numbers.Statement.{statement}
 use Rattle.message_bits.proofs.put_numbers.Tie as tie
 

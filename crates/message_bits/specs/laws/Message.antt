@@ -8,8 +8,8 @@ use borrow.Author.Tests.{lt-ltb, le-ltb}
 use Rattle.std.proofs.Math.ListN.{get_or-eq_default}
 use Rattle.bits.specs.Bits.{bits_at, unpack}
 use Rattle.finite.specs.Tabulate.{tabulate}
-use Rattle.finite.specs.laws.Tabulate.{tabulate_at, tabulate-length}
-use Rattle.layout.specs.laws.Layout.{encode_lt}
+use Rattle.finite.proofs.laws.Tabulate.{tabulate_at, tabulate-length}
+use Rattle.layout.proofs.laws.Layout.{encode_lt}
 use Rattle.record.specs.Fields.{header_fields, fields_of}
 use Rattle.record.specs.Record.{kind_of, header, header_values, field_values}
 use Rattle.record.specs.Source.{header_bits, record_bits}

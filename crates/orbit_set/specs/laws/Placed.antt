@@ -2,7 +2,7 @@
 use Rattle.std.specs.Prelude.{◌≡◌, List, ℕ, ◌%◌, get_or}
 use Rattle.std.proofs.Common.{ap, ◌∙◌, arith}
 use Rattle.bits.specs.Bits.{bits_at, unpack}
-use Rattle.bits.specs.laws.Pack.{unpack-pack}
+use Rattle.bits.proofs.laws.Pack.{unpack-pack}
 use Rattle.record.specs.Positions.{index_of}
 use Rattle.record.specs.Source.{record_of}
 use Rattle.record.specs.laws.Placed.{health_placed}

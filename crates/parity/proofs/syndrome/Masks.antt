@@ -4,10 +4,10 @@ use Prim.Native.Nat.{ℕ, ◌%◌, ◌^◌, ◌<◌}
 use lib.Bits.{bit_and, bit_xor}
 use lib.Count.{ones}
 use Rattle.bits.specs.Bits.{pack, unpack, xor, unit_at}
-use Rattle.bits.specs.laws.Xor.{xor-bit}
-use Rattle.bits.specs.laws.Pack.{pack-unpack}
-use Rattle.bits.specs.laws.Columns.{columns}
-use Rattle.bits.specs.laws.Masks.{masked}
+use Rattle.bits.proofs.laws.Xor.{xor-bit}
+use Rattle.bits.proofs.laws.Pack.{pack-unpack}
+use Rattle.bits.proofs.laws.Columns.{columns}
+use Rattle.bits.proofs.laws.Masks.{masked}
 use Rattle.parity.specs.Table.{line}
 use Rattle.parity.specs.Word.{Window, failure}
 use Rattle.parity.specs.internal.Masks.{mask_of}

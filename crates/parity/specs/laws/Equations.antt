@@ -3,7 +3,7 @@ use Rattle.std.specs.Prelude.{◌≡◌, true, false, ◌↔◌, ℕ, suc, ◌<�
 use Rattle.std.proofs.Common.{sym, ◌∙◌, mod-eq_of_lt, arith, eq-eqb, ne_eqb, eqb-true}
 use Rattle.std.proofs.lemmas.Bool.{eqb-false}
 use Rattle.bits.specs.Bits.{AreBits, pack, unpack}
-use Rattle.bits.specs.laws.Pack.{pack_lt, pack-equal, pack-zero, unpack-pack}
+use Rattle.bits.proofs.laws.Pack.{pack_lt, pack-equal, pack-zero, unpack-pack}
 use Rattle.parity.specs.Table.{Equation, line}
 use Rattle.parity.specs.Word.{Window, received_bit, parity_bit, failure, syndrome, passes}
 use Rattle.parity.specs.laws.Local.{line-bit}

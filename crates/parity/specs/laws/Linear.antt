@@ -3,8 +3,8 @@ use Rattle.std.specs.Prelude.{◌≡◌, refl, List, [], ◌∷◌, ℕ}
 use Rattle.std.proofs.Common.{ap, ap₂, ◌∙◌}
 use Rattle.std.specs.Int.Bits.{bit_xor}
 use Rattle.bits.specs.Bits.{◌⊕◌, xor}
-use Rattle.bits.specs.laws.Xor.{interchange}
-use Rattle.bits.specs.laws.Pack.{pack-equal, pack-xor}
+use Rattle.bits.proofs.laws.Xor.{interchange}
+use Rattle.bits.proofs.laws.Pack.{pack-equal, pack-xor}
 use Rattle.parity.specs.Table.{PairBit, P, Q, Equation, line}
 use Rattle.parity.specs.Word.{Window, pair_bit, received_bit, source_bit, source_sum, parity_bit, failure, syndrome}
 

@@ -8,8 +8,8 @@ use Rattle.bits.specs.Bits.{◌⊕◌, Same, pack, unpack}
 use Rattle.finite.specs.Every.{every_below}
 use Rattle.finite.specs.laws.Booleans.{and_left, and_right}
 use Rattle.finite.specs.laws.Every.{every_below_at, equal-below}
-use Rattle.bits.specs.laws.Xor.{odd_only}
-use Rattle.bits.specs.laws.Pack.{pack-equal, unpack-pack}
+use Rattle.bits.proofs.laws.Xor.{odd_only}
+use Rattle.bits.proofs.laws.Pack.{pack-equal, unpack-pack}
 use Rattle.parity.specs.Table.{PairBit, P, Q, table, line}
 use Rattle.parity.specs.Word.{Window, pair_bit, received_bit, source_bit, source_sum, parity_bit, failure, syndrome, passes}
 

@@ -12,9 +12,9 @@ use Rattle.answer.specs.Answer.{is_accepted, checked_answer}
 use Rattle.answer.specs.declared.Checked.{Checked}
 use Rattle.block_check.specs.Check.{accepted_at}
 use Rattle.block_check.specs.laws.Answers.{accepted_at-false}
-use Rattle.block_check.specs.laws.Acceptance.{acceptance}
+use Rattle.block_check.proofs.laws.Acceptance.{acceptance}
 use Rattle.quick.specs.internal.Quick.{may_start}
-use Rattle.quick.specs.laws.Start.{starts}
+use Rattle.quick.proofs.laws.Start.{starts}
 use Rattle.quick.proofs.accepted_at.Statement.{statement}
 use Rattle.quick.proofs.accepted_at.Tie as tie
 

@@ -11,11 +11,11 @@ use Rattle.answer.specs.laws.Lines.{when_refused, when_accepts, answered, answer
 use Rattle.block_check.specs.Check as Check
 use Rattle.block.specs.Block.{Block, count, subframe_number, source}
 use Rattle.block_check.specs.Compare.{Accepted}
-use Rattle.block_check.specs.laws.Acceptance.{acceptance}
+use Rattle.block_check.proofs.laws.Acceptance.{acceptance}
 use Rattle.block_check.specs.laws.Answers.{check_by_number}
-use Rattle.block.specs.laws.Source.{source-field}
+use Rattle.block.proofs.laws.Source.{source-field}
 use Rattle.record.specs.Source.{header_in, record_of}
-use Rattle.record.specs.laws.Held.{record_writable}
+use Rattle.record.proofs.laws.Held.{record_writable}
 use Rattle.record.specs.Writable.{writable}
 use Rattle.record.specs.declared.record.Record.{Record}
 use Rattle.reader.specs.Reader as Reader

@@ -6,19 +6,19 @@ use Rattle.std.proofs.Common.{subst, ◌∙◌, arith}
 use Prim.Native.Nat.{ℕ, ◌+◌, ◌-◌, ◌*◌, ◌%◌, ◌<◌, ◌≤◌}
 use Rattle.std.proofs.Math.Decide.{dec_lt}
 use Rattle.bits.specs.Bits.{bits_at, pack, unpack}
-use Rattle.bits.specs.laws.Pack.{unpack-pack}
+use Rattle.bits.proofs.laws.Pack.{unpack-pack}
 use Rattle.answer.specs.Answer as Answer
 use Rattle.answer.specs.laws.Lines.{accepted_injective}
 use Rattle.parity.specs.Word.{source_bit}
 use Rattle.block.specs.Block.{Block, window, source}
 use Rattle.block_check.specs.Check.{preamble}
 use Rattle.block_check.specs.Compare.{Accepted, Equal, Inverse, SameMessage}
-use Rattle.block_check.specs.laws.Acceptance.{acceptance}
-use Rattle.block.specs.laws.Source.{source_at, source-field}
-use Rattle.block_check.specs.laws.Inverse.{inverse-accepted}
-use Rattle.block_check.specs.laws.Uniqueness.{message_unique, uniqueness}
+use Rattle.block_check.proofs.laws.Acceptance.{acceptance}
+use Rattle.block.proofs.laws.Source.{source_at, source-field}
+use Rattle.block_check.proofs.laws.Inverse.{inverse-accepted}
+use Rattle.block_check.proofs.laws.Uniqueness.{message_unique, uniqueness}
 use Rattle.record.specs.Source.{record_of}
-use Rattle.record.specs.laws.Held.{same-header-bits, same_record_bits}
+use Rattle.record.proofs.laws.Held.{same-header-bits, same_record_bits}
 use Rattle.reader.specs.Reader as Reader
 use Rattle.reader.specs.laws.Reader.{reads}
 

@@ -2,10 +2,10 @@
 use Rattle.std.specs.Prelude.{◌≡◌, refl, true, ℕ, ◌+◌, ◌*◌, ◌/◌, ◌%◌, ◌<◌}
 use Rattle.std.proofs.Common.{sym, subst, arith}
 use Rattle.layout.specs.Field.{signed, unsigned}
-use Rattle.layout.specs.laws.Signs.{unsigned_signed}
-use Rattle.layout.specs.laws.Field.{unsigned_lt}
+use Rattle.layout.proofs.laws.Signs.{unsigned_signed}
+use Rattle.layout.proofs.laws.Field.{unsigned_lt}
 use Rattle.layout.specs.Layout.{Values, all_within}
-use Rattle.layout.specs.laws.Layout.{each_within}
+use Rattle.layout.proofs.laws.Layout.{each_within}
 use Rattle.record.specs.Fields.{fields_of, almanac_fields}
 use Rattle.record.specs.Record.{record_with, kind_of, header, field_values, joined, almanac_of, almanac_values}
 use Rattle.record.specs.declared.kind.Kind.{Kind}

@@ -18,8 +18,8 @@ use Rattle.answer.specs.laws.Lines.{refused_not, accepted_injective, answered, a
 use Rattle.block_check.specs.Check.{accepted_at}
 use Rattle.block_check.specs.Compare.{Accepted, Equal}
 use Rattle.block_check.specs.laws.Answers.{accepted_at-true, accepted_at-false}
-use Rattle.block_check.specs.laws.Acceptance.{acceptance}
-use Rattle.block_check.specs.laws.Copies.{copy_accepted}
+use Rattle.block_check.proofs.laws.Acceptance.{acceptance}
+use Rattle.block_check.proofs.laws.Copies.{copy_accepted}
 use Rattle.search.specs.Search as Search
 use Rattle.search.specs.Search.{found_answer, first_place, block_part, part_of, FirstAccepted, NoneFrom, IsPart}
 use Rattle.search.specs.declared.place.Found.{Found}

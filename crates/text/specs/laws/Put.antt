@@ -7,7 +7,7 @@ use Rattle.std.proofs.Math.Seq.{set_out, length-sets, drop-length}
 use Rattle.finite.specs.Least.{least}
 use Rattle.finite.specs.Tabulate.{tabulate}
 use Rattle.finite.specs.laws.Least.{least_left, least_right, least_le}
-use Rattle.finite.specs.laws.Tabulate.{tabulate-length, tabulate-same, tabulate_more}
+use Rattle.finite.proofs.laws.Tabulate.{tabulate-length, tabulate-same, tabulate_more}
 use Rattle.text.specs.Put.{Put}
 
 sets_append : (a b s : List ℕ) (at : ℕ) → sets (sets s at a) (at + length a) b ≡ sets s at (a ++ b)

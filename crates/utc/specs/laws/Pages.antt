@@ -2,10 +2,10 @@
 use Rattle.std.specs.Prelude.{◌≡◌, true, ◌<◌}
 use Rattle.std.proofs.Common.{ltb-true}
 use Rattle.layout.specs.Field.{within}
-use Rattle.layout.specs.laws.Layout.{each_within}
+use Rattle.layout.proofs.laws.Layout.{each_within}
 use Rattle.record.specs.Fields.{utc_fields}
 use Rattle.record.specs.Record.{utc_values}
-use Rattle.record.specs.laws.Taken.{taken}
+use Rattle.record.proofs.laws.Taken.{taken}
 use Rattle.record.specs.Writable.{writable}
 use Rattle.record.specs.declared.record.UtcPage.{UtcPage}
 use Rattle.record.specs.declared.record.Record.TheVariants as R

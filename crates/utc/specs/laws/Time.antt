@@ -7,12 +7,12 @@ use Rattle.std.specs.Int.Signed.{lt_z, clash_ℤ, lt_z_yes}
 use Rattle.finite.specs.laws.Booleans.{is_true}
 use Rattle.answer.specs.Answer.{accepted, refuse_if}
 use Rattle.integers.specs.Whole.{eq_z, modulo}
-use Rattle.integers.specs.laws.Modulo.{modulo_lt, modulo-rest}
+use Rattle.integers.proofs.laws.Modulo.{modulo_lt, modulo-rest}
 use Rattle.record.specs.Writable.{writable}
 use Rattle.record.specs.declared.record.UtcPage.{UtcPage}
 use Rattle.record.specs.declared.record.Record.TheVariants as R
 use Rattle.leap.specs.Leap.{week_difference, leap_week, leap_moment}
-use Rattle.leap.specs.laws.Leap.{leap_week_127, leap_week_bits}
+use Rattle.leap.proofs.laws.Leap.{leap_week_127, leap_week_bits}
 use Rattle.utc.specs.laws.Pages.{page_bytes}
 use Rattle.utc.specs.Time as Time
 use Rattle.utc.specs.Time.{gps_time, offset_at, second_of_day, is_gps_second, is_day}

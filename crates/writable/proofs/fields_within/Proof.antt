@@ -4,7 +4,7 @@ use borrow.Author.Rules.{rules}
 use Rattle.layout.specs.Table as Table
 use Rattle.record.specs.Fields.{fields_of}
 use Rattle.record.specs.Record.{kind_of, field_values}
-use Rattle.record.specs.laws.Sound.{fields_sound, table-most, table-within}
+use Rattle.record.proofs.laws.Sound.{fields_sound, table-most, table-within}
 use Rattle.record.specs.declared.kind.Kind.{Kind}
 use Rattle.writable.proofs.fields_within.Statement.{statement}
 use Rattle.writable.proofs.fields_within.Tie as tie

@@ -3,7 +3,7 @@ use mathlib.Core.Path.{◌∙◌}
 use borrow.Author.Rules.{rules}
 use Rattle.record.specs.Fields.{header_fields}
 use Rattle.record.specs.Record.{header, header_values}
-use Rattle.record.specs.laws.Sound.{header_sound, table-most, table-within}
+use Rattle.record.proofs.laws.Sound.{header_sound, table-most, table-within}
 use Rattle.writable.proofs.header_within.Statement.{statement}
 use Rattle.writable.proofs.header_within.Tie as tie
 

@@ -15,7 +15,7 @@ use Rattle.block.specs.Block as Block
 use Rattle.block.specs.Block.{Block, window}
 use Rattle.block_check.specs.Check.{ends_alike}
 use Rattle.block_check.specs.Compare.{WordsPass, Equal, NoFiller}
-use Rattle.block.specs.laws.Source.{source_at}
+use Rattle.block.proofs.laws.Source.{source_at}
 use Rattle.block.specs.laws.Windows.{by_windows}
 use Rattle.writer.specs.Written.{word_source, has_fillers, window_from, block_from}
 use Rattle.writer.specs.laws.Words.{window_lt, window_carried, block_window}

@@ -6,10 +6,10 @@ use Rattle.std.proofs.lemmas.Bool.{false≢true}
 use Rattle.std.proofs.Math.ListN.{get_or-append}
 use Rattle.bits.specs.Bits.{◌⊕◌, bits_at}
 use Rattle.finite.specs.Tabulate.{tabulate}
-use Rattle.finite.specs.laws.Tabulate.{tabulate_at, tabulate-length, tabulate-same}
+use Rattle.finite.proofs.laws.Tabulate.{tabulate_at, tabulate-length, tabulate-same}
 use Rattle.answer.specs.Answer.{accepted, refused}
 use Rattle.block_check.specs.Compare.{Accepted, Equal, Inverse}
-use Rattle.block_check.specs.laws.Acceptance.{acceptance}
+use Rattle.block_check.proofs.laws.Acceptance.{acceptance}
 use Rattle.block.specs.Polarity.{start_bit, polarity_of}
 use Rattle.block.specs.laws.Polarity.{polarity_start}
 use Rattle.block.specs.declared.polarity.Polarity.{Polarity}

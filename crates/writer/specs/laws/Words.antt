@@ -10,8 +10,8 @@ use Rattle.bits.specs.Bits.{Bits, AreBits}
 use Rattle.finite.specs.laws.Booleans.{or_true}
 use Rattle.parity.specs.Word.{Window, source_bit, passes}
 use Rattle.encoder.specs.Encode.{AreSource, encode, encode_ending}
-use Rattle.encoder.specs.laws.Encode.{encode-passes, encode-bits, encode_carries}
-use Rattle.encoder.specs.laws.Fillers.{ending}
+use Rattle.encoder.proofs.laws.Encode.{encode-passes, encode-bits, encode_carries}
+use Rattle.encoder.proofs.laws.Fillers.{ending}
 use Rattle.block.specs.Block.{window}
 use Rattle.block_check.specs.Compare.{NoFiller}
 use Rattle.writer.specs.Written.{word_source, has_fillers, word_after, window_from, block_from}

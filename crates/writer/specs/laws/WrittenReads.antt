@@ -5,21 +5,21 @@ use Rattle.std.proofs.Common.{◌∙◌, inl, inr, zero-add, arith}
 use Rattle.std.proofs.Math.ListN.{get_or}
 use Rattle.message_bits.specs.Message.{message_of}
 use Rattle.bits.specs.Bits.{bits_at, unpack}
-use Rattle.bits.specs.laws.Pack.{pack-equal, pack-unpack}
+use Rattle.bits.proofs.laws.Pack.{pack-equal, pack-unpack}
 use Rattle.answer.specs.Answer.{accepted}
 use Rattle.block.specs.Block.{Block, count, subframe_number, source}
 use Rattle.block_check.specs.Check.{preamble}
 use Rattle.block_check.specs.Compare.{Accepted, Conforms, Equal}
-use Rattle.block_check.specs.laws.Acceptance.{acceptance}
+use Rattle.block_check.proofs.laws.Acceptance.{acceptance}
 use Rattle.block.specs.Polarity.{start_bit}
 use Rattle.block.specs.laws.Polarity.{start_bit_lt}
-use Rattle.block.specs.laws.Source.{source-field}
+use Rattle.block.proofs.laws.Source.{source-field}
 use Rattle.block.specs.declared.polarity.Polarity.{Polarity}
-use Rattle.record.specs.laws.Held.{record_header}
+use Rattle.record.proofs.laws.Held.{record_header}
 use Rattle.record.specs.Record.{header}
-use Rattle.record.specs.laws.Returned.{record_returned}
+use Rattle.record.proofs.laws.Returned.{record_returned}
 use Rattle.record.specs.Source.{header_in, record_of}
-use Rattle.record.specs.laws.Taken.{taken, own_number}
+use Rattle.record.proofs.laws.Taken.{taken, own_number}
 use Rattle.record.specs.Writable.{writable}
 use Rattle.record.specs.declared.record.Header.{Header}
 use Rattle.record.specs.declared.record.Record.{Record}

@@ -6,7 +6,7 @@ use native.Mathlib.Omega.{arith}
 use borrow.Author.Rules.{rules}
 use lib.ListN.{length, get_or-eq_default}
 use Rattle.bits.specs.Bits.{bits_at, pack}
-use Rattle.bits.specs.laws.Pack.{pack-equal}
+use Rattle.bits.proofs.laws.Pack.{pack-equal}
 use Rattle.block.proofs.handover.window_2.Statement.{statement}
 use Rattle.block.proofs.handover.window_2.Tie as tie
 

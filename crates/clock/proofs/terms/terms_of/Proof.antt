@@ -5,7 +5,7 @@ use lib.Dec.{lit<}
 use lib.Ieee.{of_bits}
 use mir.Syntax.{w32}
 use Rattle.clock.specs.Terms as Terms
-use Rattle.doubles.specs.laws.Products.{field_times_power}
+use Rattle.doubles.proofs.laws.Products.{field_times_power}
 use Rattle.clock.proofs.terms.terms_of.Statement.{statement}
 use Rattle.clock.proofs.terms.terms_of.Tie as tie
 

@@ -2,7 +2,7 @@
 use Rattle.std.proofs.Common.{◌≡◌, ◌+◌, ℕ, ◌<◌, List, [], ◌∷◌, get_or, drop, length, sym, ap, ◌∙◌, arith}
 use Rattle.digits.specs.Numbers as Numbers
 use Rattle.digits.specs.internal.Digits.{continued, following}
-use Rattle.digits.specs.laws.Numbers.{natural_empty, continued-first, continued_at, continued_past, continued-below}
+use Rattle.digits.proofs.laws.Numbers.{natural_empty, continued-first, continued_at, continued_past, continued-below}
 use Rattle.digits.specs.declared.answers.Number.{Number}
 use Rattle.digits.proofs.numbers.natural.Goals as goal
 

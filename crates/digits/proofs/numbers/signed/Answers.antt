@@ -4,7 +4,7 @@ use lib.Dec.{lit<}
 use lib.IntN.{+ℤ_idl}
 use Rattle.integers.specs.laws.Machine.{Small, natural, literal, difference, stored, fits_of}
 use Rattle.digits.specs.internal.Digits.{with_sign}
-use Rattle.digits.specs.laws.Numbers.{sign_over, sign_below}
+use Rattle.digits.proofs.laws.Numbers.{sign_over, sign_below}
 use Rattle.digits.proofs.numbers.signed.Goals as goal
 
 -- a number below 2^63 and its negative, in 64 bits

@@ -9,7 +9,7 @@ use lib.ListN.{length, drop, length-drop}
 use lib.Seq.{take_all}
 use Rattle.digits.specs.Numbers as Numbers
 use Rattle.digits.specs.internal.Digits.{with_sign}
-use Rattle.digits.specs.laws.Numbers.{sign_natural, whole_empty, whole_minus, whole_plain}
+use Rattle.digits.proofs.laws.Numbers.{sign_natural, whole_empty, whole_minus, whole_plain}
 use Rattle.digits.proofs.numbers.whole.Statement.{statement}
 use Rattle.digits.proofs.numbers.whole.Tie as tie
 

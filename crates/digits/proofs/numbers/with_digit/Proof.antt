@@ -4,7 +4,7 @@ use mathlib.Core.List.{[]}
 use Prim.Native.Nat.{◌+◌, ◌-◌, ◌*◌}
 use native.Mathlib.Omega.{arith}
 use borrow.Author.Rules.{rules}
-use Rattle.digits.specs.laws.Numbers.{continued-low, continued-high, continued_over, continued_digit, continued-end}
+use Rattle.digits.proofs.laws.Numbers.{continued-low, continued-high, continued_over, continued_digit, continued-end}
 use Rattle.digits.proofs.numbers.with_digit.Statement.{statement}
 use Rattle.digits.proofs.numbers.with_digit.Tie as tie
 

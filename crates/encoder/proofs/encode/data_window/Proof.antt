@@ -4,7 +4,7 @@ use Prim.Native.Nat.{◌<◌}
 use native.Mathlib.Omega.{arith}
 use borrow.Author.Rules.{rules}
 use Rattle.bits.specs.Bits.{◌⊕◌, unpack}
-use Rattle.bits.specs.laws.Pack.{pack_lt}
+use Rattle.bits.proofs.laws.Pack.{pack_lt}
 use Rattle.encoder.proofs.encode.Packed.{sent, data_sent, sent_source}
 use Rattle.encoder.proofs.encode.data_window.Statement.{statement}
 use Rattle.encoder.proofs.encode.data_window.Tie as tie

@@ -4,9 +4,9 @@ use Prim.Native.Nat.{ℕ, ◌+◌, ◌-◌, ◌*◌, ◌/◌, ◌%◌, ◌<◌}
 use native.Mathlib.Omega.{arith}
 use borrow.Author.Rules.{rules}
 use Rattle.bits.specs.Bits.{◌⊕◌, pack}
-use Rattle.bits.specs.laws.Pack.{pack-last, pack-equal}
+use Rattle.bits.proofs.laws.Pack.{pack-last, pack-equal}
 use Rattle.encoder.specs.Encode.{source_of, encode, with_fillers, filler23, filler24, encode_ending}
-use Rattle.encoder.specs.laws.Encode.{encode_same}
+use Rattle.encoder.proofs.laws.Encode.{encode_same}
 use Rattle.encoder.proofs.encode.Packed.{with_last}
 use Rattle.encoder.proofs.encode.encode_ending.Statement.{statement}
 use Rattle.encoder.proofs.encode.encode_ending.Tie as tie

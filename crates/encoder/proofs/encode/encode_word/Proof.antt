@@ -4,7 +4,7 @@ use Prim.Native.Nat.{ℕ, ◌+◌}
 use native.Mathlib.Omega.{arith}
 use borrow.Author.Rules.{rules}
 use Rattle.bits.specs.Bits.{pack, unpack}
-use Rattle.bits.specs.laws.Pack.{pack_lt}
+use Rattle.bits.proofs.laws.Pack.{pack_lt}
 use Rattle.parity.specs.Word.{syndrome}
 use Rattle.encoder.specs.Encode.{source_of, encode}
 use Rattle.encoder.proofs.encode.Packed.{whole_word}

@@ -7,7 +7,7 @@ use lib.IntN.{pos, negsuc}
 use mir.Syntax.{w32}
 use mir.Val.{SFits, to_z, of_z}
 use mir.ValLaws.{to_z_pos}
-use Rattle.layout.specs.laws.Signs.{signed_low, signed_high}
+use Rattle.layout.proofs.laws.Signs.{signed_low, signed_high}
 use Rattle.integers.specs.laws.Machine.{as_is}
 use Rattle.integers.specs.laws.Shift.{half}
 use Rattle.from_numbers.proofs.signed.signed_of.Statement.{statement}

@@ -11,7 +11,7 @@ use mir.Val.{of_z}
 use Rattle.finite.specs.laws.Every.{every_below-true, every_below-false}
 use Rattle.integers.specs.Whole.{eq_z}
 use Rattle.integers.specs.laws.Machine.{same_bits}
-use Rattle.integers.specs.laws.Modulo.{eq_eq_z, ne_eq_z}
+use Rattle.integers.proofs.laws.Modulo.{eq_eq_z, ne_eq_z}
 use Rattle.from_values.specs.FromValues.{same_values}
 use Rattle.from_values.proofs.question.same_values.Statement.{statement}
 use Rattle.from_values.proofs.question.same_values.Tie as tie

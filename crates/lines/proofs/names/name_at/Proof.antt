@@ -5,7 +5,7 @@ use Prim.Native.Nat.{ℕ, ◌+◌}
 use native.Mathlib.Omega.{arith}
 use borrow.Author.Rules.{rules}
 use Rattle.lines.specs.Words as Words
-use Rattle.lines.specs.laws.Words.{name_past}
+use Rattle.lines.proofs.laws.Words.{name_past}
 use Rattle.lines.proofs.names.name_at.Statement.{statement}
 use Rattle.lines.proofs.names.name_at.Tie as tie
 

@@ -5,7 +5,7 @@ use native.Mathlib.Omega.{arith}
 use borrow.Author.Rules.{rules}
 use lib.ListN.{length, drop}
 use Rattle.lines.specs.Words as Words
-use Rattle.lines.specs.laws.Words.{same_length, same_next, same_not, same_end}
+use Rattle.lines.proofs.laws.Words.{same_length, same_next, same_not, same_end}
 use Rattle.lines.proofs.names.same.Statement.{statement}
 use Rattle.lines.proofs.names.same.Tie as tie
 

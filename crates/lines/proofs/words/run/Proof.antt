@@ -5,7 +5,7 @@ use native.Mathlib.Omega.{arith}
 use borrow.Author.Rules.{rules}
 use lib.ListN.{length, drop}
 use Rattle.lines.specs.Words as Words
-use Rattle.lines.specs.laws.Words.{run_next, run-here, run_past}
+use Rattle.lines.proofs.laws.Words.{run_next, run-here, run_past}
 use Rattle.lines.proofs.words.run.Statement.{statement}
 use Rattle.lines.proofs.words.run.Tie as tie
 

@@ -8,7 +8,7 @@ use borrow.Author.Tests.{ltb-true, ltb-false, le-leb, lt-leb, not-true, not-fals
 use lib.Dec.{leb, ltb}
 use lib.ListN.{length}
 use Rattle.lines.specs.internal.Side.{side, after}
-use Rattle.lines.specs.laws.Words.{leading_next, leading_stop, leading_end}
+use Rattle.lines.proofs.laws.Words.{leading_next, leading_stop, leading_end}
 use Rattle.lines.proofs.words.skip.Statement.{statement}
 use Rattle.lines.proofs.words.skip.Tie as tie
 

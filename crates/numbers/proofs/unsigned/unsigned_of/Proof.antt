@@ -6,7 +6,7 @@ use borrow.Author.Rules.{rules}
 use lib.Signed.{mag}
 use mir.Syntax.{w32}
 use Rattle.layout.specs.Field.{unsigned}
-use Rattle.layout.specs.laws.Signs.{unsigned_outside, unsigned-natural, unsigned_negative}
+use Rattle.layout.proofs.laws.Signs.{unsigned_outside, unsigned-natural, unsigned_negative}
 use Rattle.integers.specs.laws.Machine.{as_is}
 use Rattle.integers.specs.laws.BySign.{below-zero, from_zero}
 use Rattle.integers.specs.laws.Shift.{half}

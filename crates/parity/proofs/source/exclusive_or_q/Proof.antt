@@ -4,8 +4,8 @@ use Prim.Native.Nat.{ℕ, ◌-◌, ◌%◌}
 use native.Mathlib.Omega.{arith}
 use borrow.Author.Rules.{rules}
 use Rattle.bits.specs.Bits.{◌⊕◌, inverse, unpack}
-use Rattle.bits.specs.laws.Pack.{pack-same, pack_lowest}
-use Rattle.bits.specs.laws.Parts.{pack-inverse}
+use Rattle.bits.proofs.laws.Pack.{pack-same, pack_lowest}
+use Rattle.bits.proofs.laws.Parts.{pack-inverse}
 use Rattle.parity.proofs.source.exclusive_or_q.Statement.{statement}
 use Rattle.parity.proofs.source.exclusive_or_q.Tie as tie
 

@@ -5,8 +5,8 @@ use native.Mathlib.Omega.{arith}
 use borrow.Author.Rules.{rules}
 use lib.Pow.{shr-shr}
 use Rattle.bits.specs.Bits.{◌⊕◌, unpack}
-use Rattle.bits.specs.laws.Pack.{pack-same}
-use Rattle.bits.specs.laws.Xor.{odd_only}
+use Rattle.bits.proofs.laws.Pack.{pack-same}
+use Rattle.bits.proofs.laws.Xor.{odd_only}
 use Rattle.parity.specs.Word.{source_bit, source_bits}
 use Rattle.parity.proofs.source.source_bits.Statement.{statement}
 use Rattle.parity.proofs.source.source_bits.Tie as tie

@@ -4,7 +4,7 @@ use Prim.Native.Nat.{ℕ, ◌-◌, ◌%◌, ◌≤◌}
 use native.Mathlib.Nat.{mod-eq_of_lt}
 use native.Mathlib.Omega.{arith}
 use Rattle.bits.specs.Bits.{Bits, pack, unpack}
-use Rattle.bits.specs.laws.Pack.{pack_lt, pack_step}
+use Rattle.bits.proofs.laws.Pack.{pack_lt, pack_step}
 use Rattle.parity.specs.Table.{line}
 use Rattle.parity.specs.Word.{failure, syndrome}
 use Rattle.parity.specs.laws.Equations.{failure_lt}

@@ -4,7 +4,7 @@ use Prim.Native.Nat.{ℕ, ◌-◌, ◌≤◌}
 use native.Mathlib.Omega.{arith}
 use borrow.Author.Rules.{rules}
 use Rattle.bits.specs.Bits.{Bits, bits_at, pack}
-use Rattle.bits.specs.laws.Pack.{pack_step}
+use Rattle.bits.proofs.laws.Pack.{pack_step}
 use Rattle.parity.proofs.window.packed_window.Statement.{statement}
 use Rattle.parity.proofs.window.packed_window.Tie as tie
 

@@ -3,7 +3,7 @@ use mathlib.Core.Path.{◌≡◌, refl, ap, ◌∙◌}
 use Prim.Native.Nat.{ℕ, ◌-◌, ◌%◌, ◌≤◌}
 use native.Mathlib.Omega.{arith}
 use Rattle.bits.specs.Bits.{Bits, bits_at, pack}
-use Rattle.bits.specs.laws.Pack.{pack_step}
+use Rattle.bits.proofs.laws.Pack.{pack_step}
 use Rattle.block.specs.Block.{source}
 use Rattle.reader.proofs.numbers.number_at.Statement.{statement}
 use Rattle.reader.proofs.numbers.number_at.Tie as tie

@@ -8,9 +8,9 @@ use lib.ListN.{length, get_or, length-set}
 use lib.Seq.{get_or-set_same, get_or-set_other}
 use Rattle.layout.specs.internal.Table.{numbers_at}
 use Rattle.bits.specs.Bits.{bits_at, pack}
-use Rattle.finite.specs.laws.Tabulate.{tabulate-list}
+use Rattle.finite.proofs.laws.Tabulate.{tabulate-list}
 use Rattle.layout.specs.Table.{offset}
-use Rattle.layout.specs.laws.Table.{offset_more, offset-room}
+use Rattle.layout.proofs.laws.Table.{offset_more, offset-room}
 use Rattle.block.specs.Block.{source}
 use Rattle.reader.proofs.numbers.numbers_at.Statement.{statement}
 use Rattle.reader.proofs.numbers.numbers_at.Tie as tie

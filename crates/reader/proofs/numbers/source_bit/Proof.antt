@@ -2,7 +2,7 @@
 use native.Mathlib.Omega.{arith}
 use borrow.Author.Rules.{rules}
 use Rattle.bits.specs.Bits.{bits_at}
-use Rattle.block.specs.laws.Source.{source-bit}
+use Rattle.block.proofs.laws.Source.{source-bit}
 use Rattle.reader.proofs.numbers.source_bit.Statement.{statement}
 use Rattle.reader.proofs.numbers.source_bit.Tie as tie
 

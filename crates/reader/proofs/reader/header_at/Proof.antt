@@ -7,7 +7,7 @@ use Rattle.block.specs.Block.{source}
 use Rattle.record.specs.Fields.{header_fields}
 use Rattle.record.specs.Record.{header_of}
 use Rattle.record.specs.Source.{header_in}
-use Rattle.record.specs.laws.Sound.{header_sound, table-most, table-size, table-decode}
+use Rattle.record.proofs.laws.Sound.{header_sound, table-most, table-size, table-decode}
 use Rattle.reader.proofs.reader.header_at.Statement.{statement}
 use Rattle.reader.proofs.reader.header_at.Tie as tie
 

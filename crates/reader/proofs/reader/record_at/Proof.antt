@@ -8,11 +8,11 @@ use Rattle.bits.specs.Bits.{bits_at}
 use Rattle.layout.specs.Layout.{decode}
 use Rattle.block.specs.Block.{source}
 use Rattle.record.specs.Kind.{kind_for}
-use Rattle.record.specs.laws.Kind.{kind_only}
+use Rattle.record.proofs.laws.Kind.{kind_only}
 use Rattle.record.specs.Fields.{fields_of}
 use Rattle.record.specs.Record.{record_with}
 use Rattle.record.specs.Source.{header_in, data_id_in, id_in, kind_in, record_of}
-use Rattle.record.specs.laws.Sound.{fields_sound, table-most, table-size, table-decode}
+use Rattle.record.proofs.laws.Sound.{fields_sound, table-most, table-size, table-decode}
 use Rattle.record.specs.declared.kind.Kind.{Kind}
 use Rattle.record.specs.declared.record.Header.{Header}
 use Rattle.reader.proofs.reader.record_at.Statement.{statement}

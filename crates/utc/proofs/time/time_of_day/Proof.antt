@@ -10,7 +10,7 @@ use mir.Syntax.{w64}
 use mir.Val.{of_z}
 use Rattle.answer.specs.Answer.{accepted, refusal_answer}
 use Rattle.integers.specs.laws.Machine.{same_bits}
-use Rattle.integers.specs.laws.Modulo.{eq_eq_z, ne_eq_z}
+use Rattle.integers.proofs.laws.Modulo.{eq_eq_z, ne_eq_z}
 use Rattle.record.specs.Writable.{writable}
 use Rattle.record.specs.declared.record.Record.TheVariants as R
 use Rattle.day.specs.Day.{time_at}

@@ -7,11 +7,11 @@ use native.Mathlib.Numerals.{add-one}
 use native.Mathlib.Omega.{arith}
 use lib.Dec.{lit<}
 use Rattle.finite.specs.Tabulate.{tabulate}
-use Rattle.finite.specs.laws.Tabulate.{tabulate-same}
+use Rattle.finite.proofs.laws.Tabulate.{tabulate-same}
 use Rattle.text.specs.Put.{Put}
 use Rattle.text.specs.laws.Put.{put_none, put_same, put_length, put_run}
 use Rattle.bits.specs.Bits.{Bits, bits_at, pack, unpack}
-use Rattle.bits.specs.laws.Pack.{pack-last, unpack-pack}
+use Rattle.bits.proofs.laws.Pack.{pack-last, unpack-pack}
 use Rattle.writer.specs.Written.{word_after, window_from, block_from}
 use Rattle.writer.specs.laws.Words.{window_lt, word-bit}
 use Rattle.writer.proofs.words.put_block.Statement.{statement}

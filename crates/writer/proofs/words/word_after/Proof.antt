@@ -9,11 +9,11 @@ use borrow.Author.Rules.{rules}
 use lib.Arith.{digits_div}
 use lib.ListN.{get_or}
 use Rattle.bits.specs.Bits.{bits_at, pack, unpack}
-use Rattle.bits.specs.laws.Pack.{pack_lt, pack-equal, unpack-pack}
-use Rattle.bits.specs.laws.Parts.{pack-append}
+use Rattle.bits.proofs.laws.Pack.{pack_lt, pack-equal, unpack-pack}
+use Rattle.bits.proofs.laws.Parts.{pack-append}
 use Rattle.encoder.specs.Encode.{source_of, encode, encode_ending}
-use Rattle.encoder.specs.laws.Encode.{encode_same}
-use Rattle.encoder.specs.laws.Fillers.{ending_same}
+use Rattle.encoder.proofs.laws.Encode.{encode_same}
+use Rattle.encoder.proofs.laws.Fillers.{ending_same}
 use Rattle.writer.specs.Written.{word_source, has_fillers, word_after}
 use Rattle.writer.proofs.words.word_after.Statement.{statement}
 use Rattle.writer.proofs.words.word_after.Tie as tie

@@ -1,0 +1,4 @@
+-- Laws about the definitions of this crate.
+pub mod Inverse
+pub mod Flips
+pub mod OneFlip
