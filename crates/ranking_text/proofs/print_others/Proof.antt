@@ -4,13 +4,13 @@ use borrow.Author.Rules.{rules}
 use Rattle.ranking_text.proofs.print_others.Statement.{statement}
 use Rattle.ranking_text.proofs.print_others.Tie as tie
 
-abbrev invariant-loop : tie.invariant-loop
-invariant-loop c n₀ n = Unit {0}
+abbrev invariant-loop-n : tie.invariant-loop-n
+invariant-loop-n c n₀ n = Unit {0}
 
-abbrev decreases-loop : tie.decreases-loop
-decreases-loop c n₀ n = 33 - n
+abbrev decreases-loop-n : tie.decreases-loop-n
+decreases-loop-n c n₀ n = 33 - n
 
 pub print_others_spec : {M : Type 1} → statement M
 print_others_spec =
     tie.close
-    (tie.spec invariant-loop decreases-loop (λ c. search rules) (λ c κs. search rules) (λ c. search rules) (λ c. search rules) (λ c. search rules) (λ c. search rules))
+    (tie.spec invariant-loop-n decreases-loop-n (λ c. search rules) (λ c κs. search rules) (λ c. search rules) (λ c. search rules) (λ c. search rules) (λ c. search rules))
