@@ -19,25 +19,20 @@ use Rattle.exports_blocks.proofs.blocks.lnav_inverted.Tie as tie
 abbrev told_of : (s : List ℕ) (p : ℕ) → Answer (Unit {0}) → LnavPolarity
 told_of s p x = polarity_told (when_accepted x (polarity_of (bits_at s p)))
 
-returns : tie.Need-returns
+returns : tie.Need-returns-in-Accepted
 unfolding polarity_at polarity_told told when_accepted checked_answer from_value number detail
 returns c =
-    let q = c.before in
-    let t = q.before.before in
-    let k = t.before.before in
-    let a = k.before.before.args in
-    let polarity = polarity_by_start (bits_at a.log.now a.place) q.polarity-at.result q.polarity-at.ensures in
-    (λ i. record { answer = q.before.answer-of.ensures i; inverted = (c.is-inverted.ensures ∙ ap is_inverted polarity) i })
-    ∙ ap (told_of a.log.now a.place) (sym (ap checked_answer t.enum_told.given.1) ∙ k.check-block.ensures)
+    let a = c.args in
+    let polarity = polarity_by_start (bits_at a.log.now a.place) c.polarity_at.result c.polarity_at.ensures in
+    (λ i. record { answer = c.answer_of.ensures i; inverted = (c.is_inverted.ensures ∙ ap is_inverted polarity) i })
+    ∙ ap (told_of a.log.now a.place) (sym (ap checked_answer c.in-Accepted.is) ∙ c.check_block.ensures)
 
-returns-2 : tie.Need-returns-2
+returns-2 : tie.Need-returns-in-Refused
 unfolding polarity_at polarity_told told when_accepted checked_answer from_value number detail
 returns-2 c =
-    let d = c.before.before in
-    let k = d.before.before in
-    let a = k.before.before.args in
-    ap (λ (x : LnavAnswer). record { answer = x; inverted = false }) c.answer-of2.ensures
-    ∙ ap (told_of a.log.now a.place) (sym (ap checked_answer d.r.given.1) ∙ k.check-block.ensures)
+    let a = c.args in
+    ap (λ (x : LnavAnswer). record { answer = x; inverted = false }) c.answer_of-in-Refused.ensures
+    ∙ ap (told_of a.log.now a.place) (sym (ap checked_answer c.in-Refused.is) ∙ c.check_block.ensures)
 
 pub lnav_inverted_spec : {M : Type 1} → statement M
 lnav_inverted_spec = tie.close (tie.spec (λ c κs. tt) (λ c. search rules) (λ c κs. tt) (λ c κs. tt) (λ c κs. tt) (λ c. search rules) (λ c κs. tt) returns returns-2)

@@ -10,22 +10,20 @@ use Rattle.exports_blocks.specs.Told.{reading_told}
 use Rattle.exports_blocks.proofs.blocks.lnav_read.Statement.{statement}
 use Rattle.exports_blocks.proofs.blocks.lnav_read.Tie as tie
 
-returns : tie.Need-returns
+returns : tie.Need-returns-in-Accepted
 unfolding reading_answer reading_told told checked_answer from_value number detail
 returns c =
-    let d = c.before.before.before.before in
-    let read = sym (ap reading_answer d.r.given.1) ∙ d.before.before.read.ensures in (
-      (λ i. record { answer = c.before.answer-of.ensures i; kind = c.kind-number.ensures i }) ∙ ap reading_told read,
-      c.before.before.values_of.ensures ∙ ap (from_value d.before.before.before.before.args.values.now values_of) read,
+    let read = sym (ap reading_answer c.in-Accepted.is) ∙ c.read.ensures in (
+      (λ i. record { answer = c.answer_of.ensures i; kind = c.kind_number.ensures i }) ∙ ap reading_told read,
+      c.values_of.ensures ∙ ap (from_value c.args.values.now values_of) read,
     )
 
-returns-2 : tie.Need-returns-2
+returns-2 : tie.Need-returns-in-Refused
 unfolding reading_answer reading_told told checked_answer from_value number detail
 returns-2 c =
-    let d = c.before.before in
-    let read = sym (ap reading_answer d.r2.given.1) ∙ d.before.before.read.ensures in (
-      ap (λ (a : LnavAnswer). record { answer = a; kind = 0 }) c.answer-of2.ensures ∙ ap reading_told read,
-      ap (from_value d.before.before.before.before.args.values.now values_of) read,
+    let read = sym (ap reading_answer c.in-Refused.is) ∙ c.read.ensures in (
+      ap (λ (a : LnavAnswer). record { answer = a; kind = 0 }) c.answer_of-in-Refused.ensures ∙ ap reading_told read,
+      ap (from_value c.args.values.now values_of) read,
     )
 
 pub lnav_read_spec : {M : Type 1} → statement M

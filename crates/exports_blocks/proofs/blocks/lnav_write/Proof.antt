@@ -1,5 +1,6 @@
 -- `lnav_write` meets its contract.
 use mathlib.Core.Path.{sym, ap, ◌∙◌}
+use mathlib.Core.Bool.{Bool}
 use mathlib.Core.List.{List}
 use Prim.Native.Nat.{ℕ}
 use borrow.Author.Rules.{rules}
@@ -14,35 +15,28 @@ use Rattle.exports_blocks.specs.Told.{polarity_with}
 use Rattle.exports_blocks.proofs.blocks.lnav_write.Statement.{statement}
 use Rattle.exports_blocks.proofs.blocks.lnav_write.Tie as tie
 
-module _ (c : tie.Start) where
-  abbrev buffer : List ℕ
-  buffer = c.args.block.now
+-- what is asked of the record that the values give
+abbrev answers : List ℕ → Answer Record → Answer (Unit {0})
+answers buffer x = and_then x (λ r. Writer.write r buffer)
 
-  -- what is asked of the record that the values give
-  abbrev answers : Answer Record → Answer (Unit {0})
-  answers x = and_then x (λ r. Writer.write r buffer)
+abbrev leaves : List ℕ → Bool → Answer Record → List ℕ
+leaves buffer inverted = from_value buffer (λ r. buffer_after r (polarity_with inverted) buffer)
 
-  abbrev leaves : Answer Record → List ℕ
-  leaves = from_value buffer (λ r. buffer_after r (polarity_with c.args.inverted) buffer)
-
-returns : tie.Need-returns
+returns : tie.Need-returns-in-Given
 unfolding given_record_answer and_then from_value
 returns c =
-    let w = c.before.before.before in
-    let d = w.before.before.before.before in
-    let s = d.before.before.before.before in
-    let given = sym (ap given_record_answer d.r.given.1) ∙ d.before.before.record-with.ensures in (
-      c.answer-of.ensures ∙ ap told (w.write.ensures.0 ∙ ap (answers s) given),
-      w.write.ensures.1 ∙ ap (λ (p : Polarity). buffer_after d.r.given.0.0 p (buffer s)) w.before.before.polarity-with.ensures ∙ ap (leaves s) given,
+    let buffer = c.args.block.now in
+    let given = sym (ap given_record_answer c.in-Given.is) ∙ c.record_with.ensures in (
+      c.answer_of.ensures ∙ ap told (c.write.ensures.0 ∙ ap (answers buffer) given),
+      c.write.ensures.1 ∙ ap (λ (p : Polarity). buffer_after c.in-Given.r p buffer) c.polarity_with.ensures ∙ ap (leaves buffer c.args.inverted) given,
     )
 
-returns-2 : tie.Need-returns-2
+returns-2 : tie.Need-returns-in-Refused
 unfolding given_record_answer and_then from_value told checked_answer number detail
 returns-2 c =
-    let d = c.before.before in
-    let s = d.before.before.before.before in
-    let given = sym (ap given_record_answer d.r2.given.1) ∙ d.before.before.record-with.ensures in
-    (c.answer-of2.ensures ∙ ap (λ (x : Answer Record). told (answers s x)) given, ap (leaves s) given)
+    let buffer = c.args.block.now in
+    let given = sym (ap given_record_answer c.in-Refused.is) ∙ c.record_with.ensures in
+    (c.answer_of-in-Refused.ensures ∙ ap (λ (x : Answer Record). told (answers buffer x)) given, ap (leaves buffer c.args.inverted) given)
 
 pub lnav_write_spec : {M : Type 1} → statement M
 lnav_write_spec = tie.close (tie.spec (λ c κs. tt) (λ c. search rules) (λ c κs. tt) (λ c κs. tt) (λ c κs. tt) (λ c. search rules) (λ c κs. tt) (λ c. search rules) returns returns-2)

@@ -9,23 +9,21 @@ use Rattle.exports_blocks.specs.Told.{listing_told}
 use Rattle.exports_blocks.proofs.listing.lnav_list.Statement.{statement}
 use Rattle.exports_blocks.proofs.listing.lnav_list.Tie as tie
 
-returns : tie.Need-returns
+returns : tie.Need-returns-in-Length
 unfolding listed_answer listing_told told checked_answer from_value number detail
 returns c =
-    let d = c.before.before in
-    let l = d.before.before.list in (
-      ap (λ (a : LnavAnswer). record { answer = a; length = d.n.given.0.0 }) c.answer-of.ensures
-          ∙ ap listing_told (sym (ap listed_answer d.n.given.1) ∙ l.ensures.0.0),
+    let l = c.list in (
+      ap (λ (a : LnavAnswer). record { answer = a; length = c.in-Length.n }) c.answer_of.ensures
+          ∙ ap listing_told (sym (ap listed_answer c.in-Length.is) ∙ l.ensures.0.0),
       l.ensures.0.1,
     )
 
-returns-2 : tie.Need-returns-2
+returns-2 : tie.Need-returns-in-Refused
 unfolding listed_answer listing_told told checked_answer from_value number detail
 returns-2 c =
-    let d = c.before.before in
-    let l = d.before.before.list in (
-      ap (λ (a : LnavAnswer). record { answer = a; length = 0 }) c.answer-of2.ensures
-          ∙ ap listing_told (sym (ap listed_answer d.r.given.1) ∙ l.ensures.0.0),
+    let l = c.list in (
+      ap (λ (a : LnavAnswer). record { answer = a; length = 0 }) c.answer_of-in-Refused.ensures
+          ∙ ap listing_told (sym (ap listed_answer c.in-Refused.is) ∙ l.ensures.0.0),
       l.ensures.0.1,
     )
 

@@ -9,17 +9,15 @@ use Rattle.exports_clock.specs.Told.{accuracy_told}
 use Rattle.exports_clock.proofs.clock_questions.lnav_accuracy.Statement.{statement}
 use Rattle.exports_clock.proofs.clock_questions.lnav_accuracy.Tie as tie
 
-returns : tie.Need-returns
+returns : tie.Need-returns-in-Given
 unfolding and_then given_subframe1_answer
 returns c =
-    let d = c.before.before.before in
-    c.told-accuracy.ensures ∙ ap accuracy_told (c.before.accuracy.ensures ∙ ap (λ (x : Answer Subframe1). and_then x Accuracy.accuracy) (sym (ap given_subframe1_answer d.s.given.1) ∙ d.before.before.subframe1-with.ensures))
+    c.told_accuracy.ensures ∙ ap accuracy_told (c.accuracy.ensures ∙ ap (λ (x : Answer Subframe1). and_then x Accuracy.accuracy) (sym (ap given_subframe1_answer c.in-Given.is) ∙ c.subframe1_with.ensures))
 
-returns-2 : tie.Need-returns-2
+returns-2 : tie.Need-returns-in-Refused
 unfolding and_then given_subframe1_answer
 returns-2 c =
-    let d = c.before.before in
-    c.refused-accuracy.ensures ∙ ap accuracy_told (ap (λ (x : Answer Subframe1). and_then x Accuracy.accuracy) (sym (ap given_subframe1_answer d.r.given.1) ∙ d.before.before.subframe1-with.ensures))
+    c.refused_accuracy.ensures ∙ ap accuracy_told (ap (λ (x : Answer Subframe1). and_then x Accuracy.accuracy) (sym (ap given_subframe1_answer c.in-Refused.is) ∙ c.subframe1_with.ensures))
 
 pub lnav_accuracy_spec : {M : Type 1} → statement M
 lnav_accuracy_spec = tie.close (tie.spec (λ c κs. tt) (λ c. search rules) (λ c κs. tt) (λ c κs. tt) (λ c. search rules) (λ c κs. tt) returns returns-2)

@@ -10,7 +10,7 @@ use Rattle.exports_clock.proofs.clock_questions.refused_accuracy.Tie as tie
 
 returns : tie.Need-returns
 unfolding told checked_answer from_value plus_zero accuracy_told number detail
-returns c = ap (λ (a : LnavAnswer). record { answer = a; predicted = false; metres = plus_zero }) c.answer-of.ensures
+returns c = ap (λ (a : LnavAnswer). record { answer = a; predicted = false; metres = plus_zero }) c.answer_of.ensures
 
 pub refused_accuracy_spec : {M : Type 1} → statement M
 refused_accuracy_spec = tie.close (tie.spec (λ c κs. tt) returns)

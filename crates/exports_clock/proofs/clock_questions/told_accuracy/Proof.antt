@@ -13,25 +13,21 @@ use Rattle.exports_clock.specs.Told.{plus_zero, is_predicted, metres, accuracy_t
 use Rattle.exports_clock.proofs.clock_questions.told_accuracy.Statement.{statement}
 use Rattle.exports_clock.proofs.clock_questions.told_accuracy.Tie as tie
 
-returns : tie.Need-returns
+returns : tie.Need-returns-in-Metres
 unfolding predicted given_accuracy_answer accuracy_told told checked_answer from_value is_predicted metres number detail Option-elim
 returns c =
-    let d = c.before.before in
-    let g = d.before.before.before in
-    ap (λ (a : LnavAnswer). record { answer = a; predicted = true; metres = d.a.given.0.0 }) c.answer-of.ensures
-    ∙ sym (ap (λ (x : GivenAccuracy). accuracy_told (given_accuracy_answer x)) (g.g.given.1 ∙ ap Given d.a.given.1))
+    ap (λ (a : LnavAnswer). record { answer = a; predicted = true; metres = c.in-Metres.x }) c.answer_of.ensures
+    ∙ sym (ap (λ (x : GivenAccuracy). accuracy_told (given_accuracy_answer x)) (c.in-Given.is ∙ ap Given c.in-Metres.is))
 
-returns-2 : tie.Need-returns-2
+returns-2 : tie.Need-returns-in-NoPrediction
 unfolding predicted given_accuracy_answer accuracy_told told checked_answer from_value plus_zero is_predicted metres number detail Option-elim
 returns-2 c =
-    let d = c.before in
-    let g = d.before.before.before in
-    ap (λ (a : LnavAnswer). record { answer = a; predicted = false; metres = plus_zero }) c.answer-of2.ensures
-    ∙ sym (ap (λ (x : GivenAccuracy). accuracy_told (given_accuracy_answer x)) (g.g.given.1 ∙ ap Given d.enum_told.given.1))
+    ap (λ (a : LnavAnswer). record { answer = a; predicted = false; metres = plus_zero }) c.answer_of-in-NoPrediction.ensures
+    ∙ sym (ap (λ (x : GivenAccuracy). accuracy_told (given_accuracy_answer x)) (c.in-Given.is ∙ ap Given c.in-NoPrediction.is))
 
-returns-3 : tie.Need-returns-3
+returns-3 : tie.Need-returns-in-Refused
 unfolding given_accuracy_answer
-returns-3 c = c.refused-accuracy.ensures ∙ sym (ap (λ (x : GivenAccuracy). accuracy_told (given_accuracy_answer x)) c.before.before.g2.given.1)
+returns-3 c = c.refused_accuracy.ensures ∙ sym (ap (λ (x : GivenAccuracy). accuracy_told (given_accuracy_answer x)) c.in-Refused.is)
 
 pub told_accuracy_spec : {M : Type 1} → statement M
 told_accuracy_spec = tie.close (tie.spec (λ c. search rules) (λ c. search rules) (λ c κs. tt) (λ c. search rules) (λ c κs. tt) (λ c. search rules) (λ c κs. tt) returns returns-2 returns-3)

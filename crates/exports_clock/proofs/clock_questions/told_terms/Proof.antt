@@ -10,16 +10,16 @@ use Rattle.exports_clock.specs.Told.{terms_told}
 use Rattle.exports_clock.proofs.clock_questions.told_terms.Statement.{statement}
 use Rattle.exports_clock.proofs.clock_questions.told_terms.Tie as tie
 
-returns : tie.Need-returns
+returns : tie.Need-returns-in-Given
 unfolding given_terms_answer terms_told told checked_answer from_value number detail
 returns c =
-    let t = c.before.before.g.given.0.0 in
-    ap (λ (a : LnavAnswer). record { answer = a; tgd = t.tgd; af0 = t.af0; af1 = t.af1; af2 = t.af2 }) c.answer-of.ensures
-    ∙ sym (ap (λ (x : GivenTerms). terms_told (given_terms_answer x)) c.before.before.g.given.1)
+    let t = c.in-Given.t in
+    ap (λ (a : LnavAnswer). record { answer = a; tgd = t.tgd; af0 = t.af0; af1 = t.af1; af2 = t.af2 }) c.answer_of.ensures
+    ∙ sym (ap (λ (x : GivenTerms). terms_told (given_terms_answer x)) c.in-Given.is)
 
-returns-2 : tie.Need-returns-2
+returns-2 : tie.Need-returns-in-Refused
 unfolding given_terms_answer
-returns-2 c = c.refused-terms.ensures ∙ sym (ap (λ (x : GivenTerms). terms_told (given_terms_answer x)) c.before.before.g2.given.1)
+returns-2 c = c.refused_terms.ensures ∙ sym (ap (λ (x : GivenTerms). terms_told (given_terms_answer x)) c.in-Refused.is)
 
 pub told_terms_spec : {M : Type 1} → statement M
 told_terms_spec = tie.close (tie.spec (λ c. search rules) (λ c κs. tt) (λ c. search rules) (λ c κs. tt) returns returns-2)

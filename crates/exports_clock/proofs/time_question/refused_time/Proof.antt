@@ -9,7 +9,7 @@ use Rattle.exports_clock.proofs.time_question.refused_time.Tie as tie
 
 returns : tie.Need-returns
 unfolding told checked_answer from_value time_told number detail
-returns c = ap (λ (a : LnavAnswer). record { answer = a; hour = 0; minute = 0; second = 0 }) c.answer-of.ensures
+returns c = ap (λ (a : LnavAnswer). record { answer = a; hour = 0; minute = 0; second = 0 }) c.answer_of.ensures
 
 pub refused_time_spec : {M : Type 1} → statement M
 refused_time_spec = tie.close (tie.spec (λ c κs. tt) returns)

@@ -13,26 +13,24 @@ use Rattle.exports_collector.proofs.history.lnav_almanac.Tie as tie
 
 -- the answer of the collector, in the definition's words
 answered : (c : tie.After-almanac) →
-    (let a = c.before.before.before.before.before.args in
+    (let a = c.args in
     given_almanac_answer c.almanac.result ≡ almanac_page_after a.log.now a.places.now a.satellites.now a.id)
 unfolding almanac_page_after
-answered c = c.almanac.ensures ∙ ap (λ (k : Collector). Questions.almanac k c.before.before.before.before.before.args.id) c.before.collected.ensures
+answered c = c.almanac.ensures ∙ ap (λ (k : Collector). Questions.almanac k c.args.id) c.collected.ensures
 
-returns : tie.Need-returns
+returns : tie.Need-returns-in-Given
 unfolding values_of given_almanac_answer told checked_answer from_value number detail
 returns c =
-    let d = c.before.before.before in
-    let a = d.before.before.before.before.before.before.before.args in
-    let given = sym (ap given_almanac_answer d.page.given.1) ∙ answered d.before.before in
-    (c.answer-of.ensures ∙ ap told given, c.before.values_of.ensures ∙ ap (from_value a.values.now values_of_almanac) given)
+    let a = c.args in
+    let given = sym (ap given_almanac_answer c.in-Given.is) ∙ answered c.before.before.before in
+    (c.answer_of.ensures ∙ ap told given, c.values_of.ensures ∙ ap (from_value a.values.now values_of_almanac) given)
 
-returns-2 : tie.Need-returns-2
+returns-2 : tie.Need-returns-in-Refused
 unfolding given_almanac_answer told checked_answer from_value number detail
 returns-2 c =
-    let d = c.before.before in
-    let a = d.before.before.before.before.before.before.before.args in
-    let given = sym (ap given_almanac_answer d.r.given.1) ∙ answered d.before.before in
-    (c.answer-of2.ensures ∙ ap told given, ap (from_value a.values.now values_of_almanac) given)
+    let a = c.args in
+    let given = sym (ap given_almanac_answer c.in-Refused.is) ∙ answered c.before.before in
+    (c.answer_of-in-Refused.ensures ∙ ap told given, ap (from_value a.values.now values_of_almanac) given)
 
 pub lnav_almanac_spec : {M : Type 1} → statement M
 lnav_almanac_spec = tie.close (tie.spec (λ c κs. tt) (λ c κs. tt) (λ c. search rules) (λ c κs. tt) (λ c κs. tt) (λ c. search rules) (λ c κs. tt) returns returns-2)

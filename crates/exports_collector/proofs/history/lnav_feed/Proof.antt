@@ -5,7 +5,7 @@ use Rattle.exports_collector.proofs.history.lnav_feed.Statement.{statement}
 use Rattle.exports_collector.proofs.history.lnav_feed.Tie as tie
 
 returns : tie.Need-returns
-returns c = c.answer-of.ensures ∙ ap told c.before.feed.ensures.0
+returns c = c.answer_of.ensures ∙ ap told c.feed-fed.ensures.0
 
 pub lnav_feed_spec : {M : Type 1} → statement M
 lnav_feed_spec = tie.close (tie.spec (λ c κs. tt) (λ c κs. tt) (λ c κs. tt) returns)

@@ -14,31 +14,28 @@ use Rattle.exports_collector.proofs.history.lnav_set.Tie as tie
 
 -- the answer of the collector, in the definition's words
 answered : (c : tie.After-set) →
-    (let a = c.before.before.before.before.before.args in
+    (let a = c.args in
     given_set_answer c.set.result ≡ set_after a.log.now a.places.now a.satellites.now a.satellite)
 unfolding set_after
-answered c = c.set.ensures ∙ ap (λ (k : Collector). Questions.set k c.before.before.before.before.before.args.satellite) c.before.collected.ensures
+answered c = c.set.ensures ∙ ap (λ (k : Collector). Questions.set k c.args.satellite) c.collected.ensures
 
-returns : tie.Need-returns
+returns : tie.Need-returns-in-Given
 unfolding values_of given_set_answer set_subframe1 set_subframe2 set_subframe3 told checked_answer from_value number detail
 returns c =
-    let v = c.before.before.before in
-    let o = v.before.before.before.before.before in
-    let a = o.before.before.before.before.before.before.before.args in
-    let given = sym (ap given_set_answer o.o.given.1) ∙ answered o.before.before in (
-      c.answer-of.ensures ∙ ap told given,
-      v.values_of.ensures ∙ ap (from_value a.subframe1.now set_subframe1) given,
-      c.before.before.values-of2.ensures ∙ ap (from_value a.subframe2.now set_subframe2) given,
-      c.before.values-of3.ensures ∙ ap (from_value a.subframe3.now set_subframe3) given,
+    let a = c.args in
+    let given = sym (ap given_set_answer c.in-Given.is) ∙ answered c.before.before.before.before.before.before.before.before in (
+      c.answer_of.ensures ∙ ap told given,
+      c.values_of.ensures ∙ ap (from_value a.subframe1.now set_subframe1) given,
+      c.values_of-in-Given.ensures ∙ ap (from_value a.subframe2.now set_subframe2) given,
+      c.values_of-in-Given-2.ensures ∙ ap (from_value a.subframe3.now set_subframe3) given,
     )
 
-returns-2 : tie.Need-returns-2
+returns-2 : tie.Need-returns-in-Refused
 unfolding given_set_answer told checked_answer from_value number detail
 returns-2 c =
-    let d = c.before.before in
-    let a = d.before.before.before.before.before.before.before.args in
-    let given = sym (ap given_set_answer d.r.given.1) ∙ answered d.before.before in (
-      c.answer-of2.ensures ∙ ap told given,
+    let a = c.args in
+    let given = sym (ap given_set_answer c.in-Refused.is) ∙ answered c.before.before in (
+      c.answer_of-in-Refused.ensures ∙ ap told given,
       ap (from_value a.subframe1.now set_subframe1) given,
       ap (from_value a.subframe2.now set_subframe2) given,
       ap (from_value a.subframe3.now set_subframe3) given,

@@ -11,27 +11,25 @@ use Rattle.exports_collector.proofs.history.lnav_utc_page.Statement.{statement}
 use Rattle.exports_collector.proofs.history.lnav_utc_page.Tie as tie
 
 -- the answer of the collector, in the definition's words
-answered : (c : tie.After-utc-page) →
-    (let a = c.before.before.before.before.before.args in
-    given_utc_answer c.utc-page.result ≡ utc_page_after a.log.now a.places.now a.satellites.now)
+answered : (c : tie.After-utc_page) →
+    (let a = c.args in
+    given_utc_answer c.utc_page.result ≡ utc_page_after a.log.now a.places.now a.satellites.now)
 unfolding utc_page_after
-answered c = c.utc-page.ensures ∙ ap Questions.utc_page c.before.collected.ensures
+answered c = c.utc_page.ensures ∙ ap Questions.utc_page c.collected.ensures
 
-returns : tie.Need-returns
+returns : tie.Need-returns-in-Given
 unfolding values_of given_utc_answer told checked_answer from_value number detail
 returns c =
-    let d = c.before.before.before in
-    let a = d.before.before.before.before.before.before.before.args in
-    let given = sym (ap given_utc_answer d.page.given.1) ∙ answered d.before.before in
-    (c.answer-of.ensures ∙ ap told given, c.before.values_of.ensures ∙ ap (from_value a.values.now values_of_utc) given)
+    let a = c.args in
+    let given = sym (ap given_utc_answer c.in-Given.is) ∙ answered c.before.before.before in
+    (c.answer_of.ensures ∙ ap told given, c.values_of.ensures ∙ ap (from_value a.values.now values_of_utc) given)
 
-returns-2 : tie.Need-returns-2
+returns-2 : tie.Need-returns-in-Refused
 unfolding given_utc_answer told checked_answer from_value number detail
 returns-2 c =
-    let d = c.before.before in
-    let a = d.before.before.before.before.before.before.before.args in
-    let given = sym (ap given_utc_answer d.r.given.1) ∙ answered d.before.before in
-    (c.answer-of2.ensures ∙ ap told given, ap (from_value a.values.now values_of_utc) given)
+    let a = c.args in
+    let given = sym (ap given_utc_answer c.in-Refused.is) ∙ answered c.before.before in
+    (c.answer_of-in-Refused.ensures ∙ ap told given, ap (from_value a.values.now values_of_utc) given)
 
 pub lnav_utc_page_spec : {M : Type 1} → statement M
 lnav_utc_page_spec = tie.close (tie.spec (λ c κs. tt) (λ c κs. tt) (λ c. search rules) (λ c κs. tt) (λ c κs. tt) (λ c. search rules) (λ c κs. tt) returns returns-2)
