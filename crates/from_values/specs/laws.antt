@@ -3,5 +3,3 @@ pub mod Answers
 pub mod Machine
 pub mod Having
 pub mod InStruct
-pub mod ValuesExactly
-pub mod OwnValues

@@ -1,3 +1,2 @@
--- The files of this folder: definitions; laws about them.
+-- The files of this folder: definitions.
 pub mod Search
-pub mod laws

@@ -2,4 +2,3 @@
 pub mod Ways
 pub mod Answers
 pub mod Pages
-pub mod Time

@@ -2,5 +2,3 @@
 pub mod Words
 pub mod Carrying
 pub mod Writer
-pub mod WrittenReads
-pub mod RoundTrip

@@ -21,9 +21,9 @@ use Rattle.block_check.proofs.laws.Flips.{flips_refused, lowest}
 use Rattle.block_check.proofs.laws.Uniqueness.{uniqueness}
 use Rattle.search.specs.Search as Search
 use Rattle.search.specs.Search.{first_place, NoneFrom}
-use Rattle.search.specs.laws.Search.{finds_none}
+use Rattle.search.proofs.laws.Search.{finds_none}
 use Rattle.listing_text.specs.Listing as Listing
-use Rattle.listing_text.specs.laws.Listing as Listed
+use Rattle.listing_text.proofs.laws.Listing as Listed
 use Rattle.record.specs.Source.{record_of, header_bits, record_bits}
 use Rattle.record.specs.Writable.{writable}
 use Rattle.record.proofs.laws.Held.{header-bits, record-bits}
@@ -44,8 +44,8 @@ use Rattle.reader.specs.laws.SameRecord.{inverse_record}
 use Rattle.writer.specs.Written.{block_from, block_of, Holds}
 use Rattle.writer.specs.Writer as Writer
 use Rattle.writer.specs.laws.Writer.{after_refusal}
-use Rattle.writer.specs.laws.WrittenReads.{written_reads}
-use Rattle.writer.specs.laws.RoundTrip.{one_block, after_reads, rewritten}
+use Rattle.writer.proofs.laws.WrittenReads.{written_reads}
+use Rattle.writer.proofs.laws.RoundTrip.{one_block, after_reads, rewritten}
 use Rattle.satellite_number.specs.Numbers.{is_satellite}
 use Rattle.orbit_set.specs.Set.{first_health_bit, check_set, set_in}
 use Rattle.orbit_set.specs.declared.set.OrbitSet.{OrbitSet}

@@ -16,7 +16,7 @@ use Rattle.block_check.specs.Check as Check
 use Rattle.block_check.specs.Compare.{Accepted, Stands, Inverse, Flipped, FewFlips, Lowest}
 use Rattle.search.specs.Search as Search
 use Rattle.search.specs.Search.{found_answer, FirstAccepted}
-use Rattle.search.specs.laws.Search.{found_answer_injective, finds}
+use Rattle.search.proofs.laws.Search.{found_answer_injective, finds}
 use Rattle.search.specs.declared.place.Found.{Found}
 use Rattle.search.specs.declared.place.Found.TheVariants as Found
 use Rattle.listing_text.specs.Listing as Listing

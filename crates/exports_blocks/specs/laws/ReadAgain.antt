@@ -12,10 +12,10 @@ use Rattle.reader.specs.Reader as Reader
 use Rattle.reader.specs.laws.Reader.{read-accepted, reads_writable}
 use Rattle.record.specs.declared.record.Record.{Record}
 use Rattle.from_values.specs.FromValues as FromValues
-use Rattle.from_values.specs.laws.OwnValues.{own_values}
+use Rattle.from_values.proofs.laws.OwnValues.{own_values}
 use Rattle.values.specs.Values.{values_of}
 use Rattle.kind.specs.Number.{kind_number}
-use Rattle.writer.specs.laws.RoundTrip.{rewritten}
+use Rattle.writer.proofs.laws.RoundTrip.{rewritten}
 use Rattle.writer.specs.Writer as Writer
 use Rattle.writer.specs.Writer.{buffer_after}
 use Rattle.exports_blocks.specs.Told.{is_inverted, polarity_with, polarity_at, polarity_told}

@@ -11,11 +11,11 @@ use Rattle.reader.specs.laws.Reader.{reads_writable}
 use Rattle.record.specs.Writable.{writable}
 use Rattle.record.specs.declared.record.Record.{Record}
 use Rattle.from_values.specs.FromValues as FromValues
-use Rattle.from_values.specs.laws.ValuesExactly.{values_exactly, only_11}
-use Rattle.from_values.specs.laws.OwnValues.{writable_exactly}
+use Rattle.from_values.proofs.laws.ValuesExactly.{values_exactly, only_11}
+use Rattle.from_values.proofs.laws.OwnValues.{writable_exactly}
 use Rattle.values.specs.Values.{values_of}
 use Rattle.kind.specs.Number.{kind_number}
-use Rattle.writer.specs.laws.RoundTrip.{number_11, after_reads}
+use Rattle.writer.proofs.laws.RoundTrip.{number_11, after_reads}
 use Rattle.writer.specs.laws.Writer.{way_12, way_0, write_by_number}
 use Rattle.writer.specs.Writer as Writer
 use Rattle.writer.specs.Writer.{buffer_after}

@@ -12,7 +12,7 @@ use Rattle.text.specs.Text.{ascii, tabbed}
 use Rattle.text.specs.laws.Put.{put_length, put_end, put_more, put_first}
 use Rattle.listing_text.specs.Listing as Listing
 use Rattle.listing_text.specs.Listing.{header, listing, buffer_after, listed_answer, Lendable}
-use Rattle.listing_text.specs.laws.Listing.{list_refuses, list_gives, after_refusal, after-listing, listing_fits}
+use Rattle.listing_text.proofs.laws.Listing.{list_refuses, list_gives, after_refusal, after-listing, listing_fits}
 use Rattle.listing_text.specs.declared.listing.Listed.TheVariants.{Length}
 use Rattle.listing_text.proofs.listing.list.Goals as goal
 

@@ -11,9 +11,9 @@ use Rattle.text.specs.laws.Put.{put_none, put_same, put_more, put_length}
 use Rattle.answer.specs.Answer.{accepted, refused}
 use Rattle.search.specs.Search as Search
 use Rattle.search.specs.Search.{found_answer}
-use Rattle.search.specs.laws.Search.{found_at, found_inside}
+use Rattle.search.proofs.laws.Search.{found_at, found_inside}
 use Rattle.listing_text.specs.Listing.{line, lines, walk}
-use Rattle.listing_text.specs.laws.Searched.{walk_found, walk_none}
+use Rattle.listing_text.proofs.laws.Searched.{walk_found, walk_none}
 use Rattle.listing_text.proofs.listing.put_lines.Statement.{statement}
 use Rattle.listing_text.proofs.listing.put_lines.Tie as tie
 

@@ -1,6 +1,6 @@
 -- `feed_all` is safe and ends. The measure is what is left of the log, and a block that is found stands in it.
 use Rattle.std.proofs.Common.{◌-◌, length, arith, rules}
-use Rattle.search.specs.laws.Search.{found_inside}
+use Rattle.search.proofs.laws.Search.{found_inside}
 use Rattle.lnav.proofs.on_log.feed_all.Statement.{statement}
 use Rattle.lnav.proofs.on_log.feed_all.Tie as tie
 

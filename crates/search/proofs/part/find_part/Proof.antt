@@ -5,7 +5,7 @@ use native.Mathlib.Nat.{add_comm}
 use borrow.Author.Rules.{rules}
 use Rattle.answer.specs.Answer.{Answer}
 use Rattle.search.specs.Search.{found_answer, part_of, part_place}
-use Rattle.search.specs.laws.Search.{found_inside}
+use Rattle.search.proofs.laws.Search.{found_inside}
 use Rattle.search.proofs.part.find_part.Statement.{statement}
 use Rattle.search.proofs.part.find_part.Tie as tie
 

@@ -1,7 +1,7 @@
 -- `first_from` meets its contract.
 use Rattle.std.proofs.Common.{◌≡◌, ◌+◌, sym, ◌∙◌, arith}
 use Rattle.search.specs.Search.{first_place}
-use Rattle.search.specs.laws.Search.{past_end, here, next}
+use Rattle.search.proofs.laws.Search.{past_end, here, next}
 use Rattle.search.proofs.place.+first_from.Goals as goal
 
 pub returns-then-bytes-p : goal.returns-then-bytes-p

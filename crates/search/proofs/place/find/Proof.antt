@@ -3,7 +3,7 @@ use mathlib.Core.Path.{sym, ap, ◌∙◌}
 use native.Mathlib.Omega.{arith}
 use Rattle.answer.specs.Answer.{accepted, refusal_answer}
 use Rattle.search.specs.Search.{found_answer}
-use Rattle.search.specs.laws.Search.{way_0, way_1, way_10}
+use Rattle.search.proofs.laws.Search.{way_0, way_1, way_10}
 use Rattle.search.proofs.place.find.Statement.{statement}
 use Rattle.search.proofs.place.find.Tie as tie
 

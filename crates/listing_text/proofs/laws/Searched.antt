@@ -9,9 +9,9 @@ use Rattle.block_check.specs.laws.Answers.{accepted_at-true, accepted_at-false}
 use Rattle.block_check.proofs.laws.Acceptance.{acceptance}
 use Rattle.search.specs.Search as Search
 use Rattle.search.specs.Search.{first_place, NoneFrom}
-use Rattle.search.specs.laws.Search.{way_10, way_0, finds, finds_none}
+use Rattle.search.proofs.laws.Search.{way_10, way_0, finds, finds_none}
 use Rattle.listing_text.specs.Listing.{walk}
-use Rattle.listing_text.specs.laws.Walk.{walk_end, walk_here, walk_next}
+use Rattle.listing_text.proofs.laws.Walk.{walk_end, walk_here, walk_next}
 
 module _ (s : List ℕ) where
   -- a place that is not accepted adds nothing

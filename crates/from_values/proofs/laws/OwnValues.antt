@@ -10,7 +10,7 @@ use Rattle.values.specs.Values.{values_of_subframe1, values_of_utc, values_of}
 use Rattle.kind.specs.Number.{kind_number}
 use Rattle.from_values.specs.FromValues as FromValues
 use Rattle.from_values.specs.laws.InStruct.{writable_in_struct}
-use Rattle.from_values.specs.laws.ValuesExactly.{subframe1_length, utc_page_length, values_length, subframe1_exactly, utc_page_exactly, values_exactly, one_record}
+use Rattle.from_values.proofs.laws.ValuesExactly.{subframe1_length, utc_page_length, values_length, subframe1_exactly, utc_page_exactly, values_exactly, one_record}
 
 pub writable_exactly : (kind : ℕ) (v : List ℤ) → length v ≡ 25 → (r : Record) → writable r ≡ true → (FromValues.record_with kind v ≡ accepted r) ↔ ((kind_number r ≡ kind) × (values_of r ≡ v))
 writable_exactly kind v l r h = (

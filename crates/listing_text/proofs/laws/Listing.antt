@@ -21,10 +21,10 @@ use Rattle.parity.specs.Word.{source_bit}
 use Rattle.block.specs.Block.{Block, window, field, count, subframe_number}
 use Rattle.block_check.specs.Check.{accepted_at}
 use Rattle.block.specs.Polarity.{polarity_of}
-use Rattle.search.specs.laws.Search.{way_1}
+use Rattle.search.proofs.laws.Search.{way_1}
 use Rattle.listing_text.specs.Listing as Listing
 use Rattle.listing_text.specs.Listing.{walk_in, walk, letter, line_with, line, lines, header, listing, buffer_after, listed_answer}
-use Rattle.listing_text.specs.laws.Searched.{walk_none}
+use Rattle.listing_text.proofs.laws.Searched.{walk_none}
 use Rattle.listing_text.specs.declared.listing.Listed.{Listed}
 use Rattle.listing_text.specs.declared.listing.Listed.TheVariants as Listed
 

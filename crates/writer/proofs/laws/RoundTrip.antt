@@ -23,7 +23,7 @@ use Rattle.writer.specs.Written.{block_from, block_of, Holds}
 use Rattle.writer.specs.Writer as Writer
 use Rattle.writer.specs.Writer.{buffer_after}
 use Rattle.writer.specs.laws.Writer.{way_11, way_0, only_11, accepts, after_writing}
-use Rattle.writer.specs.laws.WrittenReads.{written_accepted, written_reads}
+use Rattle.writer.proofs.laws.WrittenReads.{written_accepted, written_reads}
 
 -- the block of a record that the writer takes, alone in a log
 module _ (r : Record) (h : writable r ≡ true) (a : Polarity) where

@@ -1,0 +1,3 @@
+-- Laws about the definitions of this crate.
+pub mod ValuesExactly
+pub mod OwnValues
