@@ -1,5 +1,4 @@
--- The files of this folder: definitions; laws about them.
+-- The files of this folder: definitions.
 pub mod Tables
 pub mod Listed
 pub mod Agreement
-pub mod laws

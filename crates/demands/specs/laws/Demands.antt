@@ -37,7 +37,7 @@ use Rattle.record.specs.declared.kind.Kind.{Kind}
 use Rattle.tables.specs.Tables.{aodo}
 use Rattle.tables.specs.Listed.{unlisted, entries_of, rows_of}
 use Rattle.tables.specs.Agreement.{row_holds, entry_holds}
-use Rattle.tables.specs.laws.Tables.{rows_hold, entries_hold}
+use Rattle.tables.proofs.laws.Tables.{rows_hold, entries_hold}
 use Rattle.reader.specs.Reader as Reader
 use Rattle.reader.specs.laws.Reader.{read-accepted}
 use Rattle.reader.specs.laws.SameRecord.{inverse_record}
