@@ -1,9 +1,7 @@
 -- Definitions. The numbers that a text writes in decimal digits.
 use Rattle.std.specs.Prelude.{Bool, true, false, cond, ◌&&◌, List, [], ◌∷◌, ℕ, ◌+◌, ◌-◌, ◌*◌, ◌^◌, leb, ltb, eqb, ℤ, pos, neg_ℤ, length}
 use Rattle.digits.specs.declared.answers.Number.{Number}
-use Rattle.digits.specs.declared.answers.Number.TheVariants as Number
 use Rattle.digits.specs.declared.answers.Whole.{Whole}
-use Rattle.digits.specs.declared.answers.Whole.TheVariants as Whole
 
 -- whether a text is digits alone; the digits 0 to 9 are the bytes 48 to 57
 unfoldable pub all_digits : List ℕ → Bool

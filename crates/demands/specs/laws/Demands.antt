@@ -57,8 +57,8 @@ use Rattle.collector.specs.laws.Ways.{fed-refused}
 use Rattle.collector.specs.declared.held.Collector.{Collector}
 use Rattle.histories.specs.History as History
 use Rattle.histories.specs.History.{reached, subframe1_for, subframe2_for, subframe3_for, IsLatest, IsSet}
-use Rattle.histories.specs.laws.History.{latest_is}
-use Rattle.histories.specs.laws.Sets.{set_given}
+use Rattle.histories.proofs.laws.History.{latest_is}
+use Rattle.histories.proofs.laws.Sets.{set_given}
 use Rattle.ranking.specs.Ranking as Ranking
 use Rattle.ranking.specs.laws.Ways as Ranked
 use Rattle.clock.specs.Terms as Terms

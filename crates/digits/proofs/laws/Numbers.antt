@@ -12,7 +12,6 @@ use Rattle.finite.specs.laws.Booleans.{and_false, and_true}
 use Rattle.digits.specs.Numbers.{all_digits, value, writes_below, natural, negated_if, signed, whole}
 use Rattle.digits.specs.internal.Digits.{continued, following, with_sign}
 use Rattle.digits.specs.declared.answers.Number.{Number}
-use Rattle.digits.specs.declared.answers.Number.TheVariants as Number
 use Rattle.digits.specs.declared.answers.Whole.TheVariants as Whole
 
 -- ---- digits after digits that write n

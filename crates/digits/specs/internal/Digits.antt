@@ -2,9 +2,7 @@
 use Rattle.std.specs.Prelude.{Bool, cond, ◌&&◌, List, ℕ, ◌+◌, ◌*◌, ◌^◌, ltb, length}
 use Rattle.digits.specs.Numbers.{all_digits, value, negated_if}
 use Rattle.digits.specs.declared.answers.Number.{Number}
-use Rattle.digits.specs.declared.answers.Number.TheVariants as Number
 use Rattle.digits.specs.declared.answers.Whole.{Whole}
-use Rattle.digits.specs.declared.answers.Whole.TheVariants as Whole
 
 -- the number below 2^64 that a text of digits writes after digits that write n
 unfoldable pub continued : ℕ → List ℕ → Number

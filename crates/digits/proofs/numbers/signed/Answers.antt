@@ -2,7 +2,7 @@
 use Rattle.std.proofs.Common.{sym, ap, ◌∙◌, arith, ℕ, pos, neg_ℤ, ◌-ℤ◌, to_z, w64, ◌≤◌}
 use lib.Dec.{lit<}
 use lib.IntN.{+ℤ_idl}
-use Rattle.integers.specs.laws.Machine.{Small, natural, literal, difference, stored, fits_of}
+use Rattle.integers.specs.laws.Machine.{Small, natural, literal, difference, stored}
 use Rattle.digits.specs.internal.Digits.{with_sign}
 use Rattle.digits.proofs.laws.Numbers.{sign_over, sign_below}
 use Rattle.digits.proofs.numbers.signed.Goals as goal

@@ -12,7 +12,7 @@ use Rattle.collector.specs.Held.{held_utc}
 use Rattle.collector.specs.Questions as Questions
 use Rattle.histories.specs.History.{Feed, reached, almanac_for, utc_from, latest}
 use Rattle.collector.specs.laws.Ways.{almanac_held}
-use Rattle.histories.specs.laws.History.{held-almanac, held-utc}
+use Rattle.histories.proofs.laws.History.{held-almanac, held-utc}
 
 page_given : {A : Type 0} (answer : Answer A) (held latest : Option A) → answer ≡ when_held held 20 0 accepted → held ≡ latest → (a : A)
     → (answer ≡ accepted a) ↔ (latest ≡ some a)

@@ -19,7 +19,7 @@ use Rattle.collector.specs.Questions as Questions
 use Rattle.histories.specs.History.{Feed, after, reached, brought_for, subframe1_for, subframe2_for, subframe3_for, latest, feeds_for, Each, IsSet}
 use Rattle.collector.specs.laws.Ways.{set_13, set_held}
 use Rattle.histories.specs.laws.AfterFeed.{satellite_other}
-use Rattle.histories.specs.laws.History.{held-subframe1, held-subframe2, held-subframe3, still, latest_own}
+use Rattle.histories.proofs.laws.History.{held-subframe1, held-subframe2, held-subframe3, still, latest_own}
 use Rattle.collector.specs.declared.held.Collector.{Collector}
 
 -- the question looks at the latest subframes 1, 2 and 3 of the satellite
