@@ -1,7 +1,6 @@
 -- Laws. Each clock term has the scale that document 000's Table 20-I prints for its parameter.
 use Rattle.std.specs.Prelude.{◌≡◌, refl}
 use Rattle.clock.specs.Terms as Terms
-use Rattle.clock.specs.declared.terms.ClockTerms.{ClockTerms}
 use Rattle.doubles.specs.Scaled.{scaled}
 use Rattle.record.specs.declared.record.Subframe1.{Subframe1}
 use Rattle.tables.specs.Tables.{table20_I}

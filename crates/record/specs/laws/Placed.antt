@@ -6,8 +6,8 @@ use Rattle.std.proofs.Math.Option.{some-injective}
 use Rattle.bits.specs.Bits.{bits_at, pack}
 use Rattle.layout.specs.Field.{read_field}
 use Rattle.layout.specs.Layout.{decode}
-use Rattle.record.specs.Fields.{subframe1_fields, subframe2_fields, subframe3_fields, fields_of}
-use Rattle.record.specs.Record.{subframe1_of, subframe2_of, subframe3_of, record_with, kind_of}
+use Rattle.record.specs.Fields.{subframe1_fields, fields_of}
+use Rattle.record.specs.Record.{subframe1_of, record_with, kind_of}
 use Rattle.record.specs.AsKind.{by_kind, as_subframe1, as_subframe2, as_subframe3}
 use Rattle.record.specs.Positions.{index_of}
 use Rattle.record.specs.Source.{header_in, kind_in, record_of}

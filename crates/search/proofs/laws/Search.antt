@@ -23,7 +23,6 @@ use Rattle.block_check.proofs.laws.Copies.{copy_accepted}
 use Rattle.search.specs.Search as Search
 use Rattle.search.specs.Search.{found_answer, first_place, block_part, part_of, FirstAccepted, NoneFrom, IsPart}
 use Rattle.search.specs.declared.place.Found.{Found}
-use Rattle.search.specs.declared.place.Found.TheVariants as Found
 
 -- the answer determines the enum
 pub found_answer_injective : (x y : Found) → found_answer x ≡ found_answer y → x ≡ y

@@ -2,7 +2,6 @@
 use mathlib.Core.Path.{◌≡◌, sym, ap, ◌∙◌}
 use mathlib.Core.Bool.{true, false, not}
 use borrow.Author.Rules.{rules}
-use borrow.Author.Tests.{not-true, not-false}
 use Rattle.record.specs.Kind.{is_page, is_almanac, is_utc, is_other}
 use Rattle.kind.proofs.kind.is_other.Statement.{statement}
 use Rattle.kind.proofs.kind.is_other.Tie as tie

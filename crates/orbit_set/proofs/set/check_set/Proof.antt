@@ -1,7 +1,6 @@
 -- `check_set` meets its contract, by the lines of the table.
 use mathlib.Core.Path.{sym, ap, ◌∙◌}
 use borrow.Author.Rules.{rules}
-use borrow.Author.Tests.{not-true, not-false}
 use Rattle.answer.specs.Answer.{refusal_answer}
 use Rattle.orbit_set.specs.Set.{given_set_answer}
 use Rattle.orbit_set.specs.laws.Ways.{check_18, check_19, check_0}

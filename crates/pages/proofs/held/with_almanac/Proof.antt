@@ -4,7 +4,6 @@ use mathlib.Core.Option.{Option-elim}
 use Prim.Native.Nat.{◌≤◌}
 use native.Mathlib.Omega.{arith}
 use borrow.Author.Rules.{rules}
-use borrow.Author.Tests.{not-true, not-false}
 use Rattle.record.specs.AsKind.{by_kind, as_almanac, as_utc}
 use Rattle.satellite_number.specs.laws.Numbers.{bounds}
 use Rattle.pages.specs.After.{almanac_after, utc_after, pages_after}

@@ -3,7 +3,6 @@ use mathlib.Core.Path.{sym, ap, ◌∙◌}
 use Prim.Native.Nat.{◌≤◌}
 use native.Mathlib.Omega.{arith}
 use borrow.Author.Rules.{rules}
-use borrow.Author.Tests.{not-true, not-false}
 use Rattle.answer.specs.Answer.{accepted, refusal_answer, when_held}
 use Rattle.satellite_number.specs.laws.Numbers.{bounds}
 use Rattle.pages.specs.Held.{empty_entry, almanac_in, held_almanac}

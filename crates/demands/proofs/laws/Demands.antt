@@ -70,7 +70,7 @@ use Rattle.demands.specs.Table.{by_lines, log_lines, block_lines, search_lines, 
 use Rattle.demands.specs.Message.{Carries}
 use Rattle.demands.specs.Orbit.{fed_block, IssueAndHealth}
 use Rattle.demands.specs.Detected.{Detected, pair, word}
-use Rattle.demands.specs.laws.Table.{lines-value}
+use Rattle.demands.proofs.laws.Table.{lines-value}
 use Rattle.demands.specs.laws.Placed.{first-health-bit, iodc-low, iode_2, iode_3}
 use Rattle.demands.specs.laws.Brought.{brought_1, brought_2, brought_3}
 

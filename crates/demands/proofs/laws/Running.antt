@@ -48,7 +48,7 @@ use Rattle.ranking.specs.laws.Histories.{ranked_exactly}
 use Rattle.ranking.specs.declared.ranking.Ranked.{Ranked}
 use Rattle.ranking.specs.declared.ranking.Ranked.TheVariants as Ranked
 use Rattle.demands.specs.Detected.{Detected, pair, word}
-use Rattle.demands.specs.laws.Demands as Demands
+use Rattle.demands.proofs.laws.Demands as Demands
 
 -- ---- Demand 1
 

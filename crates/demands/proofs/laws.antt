@@ -1,0 +1,4 @@
+-- Laws about the definitions of this crate.
+pub mod Table
+pub mod Demands
+pub mod Running
