@@ -26,7 +26,6 @@ use Rattle.listing_text.specs.Listing as Listing
 use Rattle.listing_text.specs.Listing.{walk_in, walk, letter, line_with, line, lines, header, listing, buffer_after, listed_answer}
 use Rattle.listing_text.proofs.laws.Searched.{walk_none}
 use Rattle.listing_text.specs.declared.listing.Listed.{Listed}
-use Rattle.listing_text.specs.declared.listing.Listed.TheVariants as Listed
 
 line_with-length : (p n c x : ℕ) → length (line_with p n c x) ≡ length (decimal p) + length (decimal n) + length (decimal c) + 5
 unfolding line_with

@@ -1,7 +1,6 @@
 -- `holds_any` meets its contract: a number that is no satellite's, then what is held of the satellite.
 use mathlib.Core.Path.{◌≡◌, sym, ◌∙◌}
 use mathlib.Core.Bool.{true}
-use borrow.Author.Tests.{not-true, not-false}
 use Rattle.satellite_number.specs.Numbers.{is_satellite}
 use Rattle.collector.specs.Questions.{any_held}
 use Rattle.collector.specs.laws.Ways.{of_satellite, holds_none, holds_held}

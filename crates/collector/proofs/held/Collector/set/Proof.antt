@@ -1,7 +1,6 @@
 -- `set` meets its contract: number 13, then what is held of the satellite decides.
 use mathlib.Core.Path.{◌≡◌, sym, ap, ◌∙◌}
 use mathlib.Core.Bool.{true}
-use borrow.Author.Tests.{not-true, not-false}
 use Rattle.answer.specs.Answer.{refusal_answer}
 use Rattle.orbit_set.specs.Set.{given_set_answer, set_in}
 use Rattle.satellite_number.specs.Numbers.{is_satellite}
