@@ -6,7 +6,7 @@ use Rattle.record.specs.Fields.{header_fields, fields_of}
 use Rattle.record.specs.declared.kind.Kind.{Kind}
 use Rattle.record.specs.declared.kind.Kind.TheVariants.{Subframe1, Subframe2, Almanac, Utc, Other}
 
--- fields `first` to `last` of a run, counted from 0, stand from bit `bit` of word `word` to bit `endBit` of word `end_word`;
+-- fields `first` to `last` of a run, counted from 0, stand from bit `bit` of word `word` to bit `end_bit` of word `end_word`;
 -- the run begins at index `start` of the source bits
 pub record Position : Type 0 where
   pub start : ℕ

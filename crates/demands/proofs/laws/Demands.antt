@@ -77,7 +77,7 @@ use Rattle.demands.specs.laws.Brought.{brought_1, brought_2, brought_3}
 -- ---- Demand 1
 
 -- 'Refusals first, by document 01's numbers and details.' Each call answers by the lines of document 01's table, from the top down: it is refused
--- exactly by the first line that holds (`refused-exactly` of Table), with its number and detail.
+-- exactly by the first line that holds (`refused_exactly` of Table), with its number and detail.
 
 module _ (s : List ℕ) (p : ℕ) where
   pub refusals_check : Check.check_block s p ≡ by_lines (log_lines s ++ block_lines s p) (accepted tt)
@@ -171,7 +171,7 @@ no_byte_of_values lent values answer n d e = rw e
 pub no_record_changed : (c : Collector) (s : List ℕ) (p n m d : ℕ) → Feed.feed s p n ≡ refused m d → Feed.fed c s p n ≡ c
 no_record_changed c s p n m d e = fed-refused s p n c m d e
 
--- 'All else is accepted and answered': the same theorems, with `accepted-exactly` of Table: a call is accepted exactly where no line holds. The laws
+-- 'All else is accepted and answered': the same theorems, with `accepted_exactly` of Table: a call is accepted exactly where no line holds. The laws
 -- named ..-by-number say of each call that its number is 0 exactly then. 'Every call ends, no check is left to the caller': the prover asks for a proof
 -- that each function ends, and no public function has a `requires`.
 
