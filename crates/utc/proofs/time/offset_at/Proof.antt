@@ -1,4 +1,4 @@
--- `offset_at` meets its contract: its test is the definition's (`at_dtls`: that field of the struct and those after it, each known to be an i32).
+-- `offset_at` meets its contract: its test is the definition's (`at-dtls`: that field of the struct and those after it, each known to be an i32).
 use mathlib.Core.Path.{◌≡◌, sym, ap, ◌∙◌}
 use mathlib.Core.Bool.{Bool, true, false, cond}
 use borrow.Author.Rules.{rules}
