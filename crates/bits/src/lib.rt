@@ -1,2 +1,2 @@
-// Bits as the numbers 0 and 1. This layer is definitions and laws (specs/); it has no code.
+// Bits as the numbers 0 and 1. This layer is definitions and laws; it has no code.
 #![tactic(auto)]

@@ -1,2 +1,2 @@
-// Document 01's board examples that are marked P. This layer is definitions and laws (specs/); it has no code.
+// Document 01's board examples that are marked P. This layer is definitions and laws; it has no code.
 #![tactic(auto)]

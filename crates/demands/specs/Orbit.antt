@@ -1,5 +1,5 @@
 -- Definitions. Demand 2's conditions on an orbit set, by the bits of the blocks that were fed.
-use Rattle.std.specs.Prelude.{◌≡◌, ℕ}
+use Rattle.std.specs.Prelude.{◌≡◌}
 use Rattle.bits.specs.Bits.{bits_at}
 use Rattle.parity.specs.Word.{source_bit}
 use Rattle.block.specs.Block.{Block, window, field}

@@ -1,2 +1,2 @@
-// The three demands on the library, sentence by sentence. This layer is definitions and laws (specs/); it has no code.
+// The three demands on the library, sentence by sentence. This layer is definitions and laws; it has no code.
 #![tactic(auto)]

@@ -1,4 +1,4 @@
-// Whole numbers with sign, and as the machine holds them: definitions and laws (specs/), and the absolute value.
+// Whole numbers with sign, and as the machine holds them: definitions and laws, and the absolute value.
 #![tactic(auto)]
 
 ghost use Rattle.std.specs.Prelude.{◌≡◌, nat_abs};

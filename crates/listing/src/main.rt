@@ -13,9 +13,10 @@ fn reason_in(text: &str) -> &str {
     }
 }
 
-// Writes a line to standard error: what failed, and the system's reason.
+// Writes a line to standard error: what failed, and the system's reason, which is left out where there is no memory for its text.
 fn fail<R: Eprint + Alloc>(rt: &R, what: &str, error: &Error) {
     let Ok(text) = error.to_string(rt.alloc()) else {
+        let _ = eprintln!(rt; "{what}");
         return;
     };
     let reason = reason_in(&text);

@@ -1,6 +1,6 @@
 -- Laws. What the demands say of the values that the functions return. Each law takes what the contract of a function promises of a call, and says of the
 -- value returned, or of the buffer or the collector after the call, what the demand says.
-use Rattle.std.specs.Prelude.{◌≡◌, refl, true, List, ◌++◌, ◌↔◌, ℕ, ◌+◌, ◌%◌, ◌≤◌, length, take, drop}
+use Rattle.std.specs.Prelude.{◌≡◌, true, List, ◌++◌, ◌↔◌, ℕ, ◌+◌, ◌%◌, ◌≤◌, length, take, drop}
 use Rattle.std.proofs.Common.{sym, ap, ◌∙◌}
 use Rattle.finite.specs.Tabulate.{tabulate}
 use Rattle.bits.specs.Bits.{Bits, bits_at}
@@ -8,7 +8,6 @@ use Rattle.answer.specs.Answer.{Answer, accepted, refused, number, detail, outco
 use Rattle.answer.specs.laws.Lines.{refused_not, checked_answer_injective}
 use Rattle.answer.specs.declared.Refusal.{Refusal}
 use Rattle.answer.specs.declared.Checked.{Checked}
-use Rattle.answer.specs.declared.Checked.TheVariants as Checked
 use Rattle.block.specs.Polarity.{start_bit}
 use Rattle.block.specs.laws.Polarity.{polarity_by_start}
 use Rattle.block.specs.declared.polarity.Polarity.{Polarity}
@@ -18,24 +17,20 @@ use Rattle.search.specs.Search as Search
 use Rattle.search.specs.Search.{found_answer, FirstAccepted}
 use Rattle.search.proofs.laws.Search.{found_answer_injective, finds}
 use Rattle.search.specs.declared.place.Found.{Found}
-use Rattle.search.specs.declared.place.Found.TheVariants as Found
 use Rattle.listing_text.specs.Listing as Listing
 use Rattle.listing_text.specs.Listing.{listed_answer}
 use Rattle.listing_text.specs.declared.listing.Listed.{Listed}
-use Rattle.listing_text.specs.declared.listing.Listed.TheVariants as Listed
 use Rattle.record.specs.declared.record.Record.{Record}
 use Rattle.reader.specs.Reader as Reader
 use Rattle.reader.specs.Reader.{reading_answer}
 use Rattle.reader.specs.laws.Reader.{reading_answer_injective}
 use Rattle.reader.specs.declared.reader.Reading.{Reading}
-use Rattle.reader.specs.declared.reader.Reading.TheVariants as Reading
 use Rattle.writer.specs.Writer as Writer
 use Rattle.satellite_number.specs.Numbers.{is_satellite}
 use Rattle.orbit_set.specs.Set.{given_set_answer}
 use Rattle.orbit_set.specs.laws.Answers.{given_set_answer_injective}
 use Rattle.orbit_set.specs.declared.set.OrbitSet.{OrbitSet}
 use Rattle.orbit_set.specs.declared.set.GivenSet.{GivenSet}
-use Rattle.orbit_set.specs.declared.set.GivenSet.TheVariants as GivenSet
 use Rattle.collector.specs.Feed as Feed
 use Rattle.collector.specs.Questions as Questions
 use Rattle.collector.specs.declared.held.Collector.{Collector}
@@ -46,7 +41,6 @@ use Rattle.ranking.specs.Ranking.{ranked_answer, times_in}
 use Rattle.ranking.specs.laws.Ways.{after_list}
 use Rattle.ranking.specs.laws.Histories.{ranked_exactly}
 use Rattle.ranking.specs.declared.ranking.Ranked.{Ranked}
-use Rattle.ranking.specs.declared.ranking.Ranked.TheVariants as Ranked
 use Rattle.demands.specs.Detected.{Detected, pair, word}
 use Rattle.demands.proofs.laws.Demands as Demands
 
