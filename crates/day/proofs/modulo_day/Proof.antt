@@ -48,6 +48,6 @@ pub modulo_day_spec : {M : Type 1} → statement M
 modulo_day_spec =
     tie.close
     (tie.spec rem-rest (λ c. fits_of w64 (sum (rest_is c.before) (literal 86400)) (lit< tt))
-    (λ c. cast-of w32 (modulo (t c.before) 86400) (more_is c.before c.if-rest-lt0.true) (fits c.before))
-    (λ c. cast-of w32 (modulo (t c.before) 86400) (is_rest c.before c.if-rest-lt0.false) (fits c.before))
-    (λ c. ap nat_abs (more_is c.before c.if-rest-lt0.true)) (λ c. ap nat_abs (is_rest c.before c.if-rest-lt0.false)))
+    (λ c. cast-of w32 (modulo (t c.before) 86400) (more_is c.before (cc)) (fits c.before))
+    (λ c. cast-of w32 (modulo (t c.before) 86400) (is_rest c.before (cc)) (fits c.before))
+    (λ c. ap nat_abs (more_is c.before (cc))) (λ c. ap nat_abs (is_rest c.before (cc))))

@@ -45,6 +45,9 @@ module _ (z : ℤ) (f : SFits w64 z) where
   test : {b : Bool} → lt_z read (pos 0) ≡ b → lt_z z (pos 0) ≡ b
   test e = ap (λ (y : ℤ). lt_z y (pos 0)) (sym is) ∙ e
 
+  size_fits : Fits w64 (nat_abs z)
+  size_fits = record { fits = lt_of_le_of_lt (of_width w64 z f).le (lit< tt) }
+
   module _ (t : lt_z read (pos 0) ≡ true) where
     up : Small (read +ℤ pos 1) (suc_ℤ z) (mag z)
     up = record { is = ap (λ (y : ℤ). y +ℤ pos 1) is ∙ +ℤ_one z; le = up_size z (test t) }
@@ -55,8 +58,11 @@ module _ (z : ℤ) (f : SFits w64 z) where
     result : to_z w64 (of_z w64 (pos 0 -ℤ to_z w64 (of_z w64 (read +ℤ pos 1)))) ≡ pos (mag z)
     result = (stored w64 turn f.sfits).is ∙ turned z (test t)
 
-  size_fits : Fits w64 (nat_abs z)
-  size_fits = record { fits = lt_of_le_of_lt (of_width w64 z f).le (lit< tt) }
+    one_fits : Fits w64 (mag z + 1)
+    one_fits = rw (one_more z (test t)) size_fits
+
+    smaller : Fits w64 (mag z)
+    smaller = record { fits = omega (arith, one_fits.fits) }
 
   kept : lt_z read (pos 0) ≡ false → read ≡ pos (nat_abs z)
   kept e = is ∙ from_zero z (test e)
@@ -64,25 +70,10 @@ module _ (z : ℤ) (f : SFits w64 z) where
 pub absolute_spec : {M : Type 1} → statement M
 absolute_spec =
     tie.close
-    (tie.spec (λ c. fits_of w64 (up (z' c.before) (f' c.before) c.if-z-lt0.true) (f' c.before).sfits)
-    (λ c. fits_of w64 (turn (z' c.before) (f' c.before) c.if-z-lt0.true) (f' c.before).sfits)
-    (λ c. cast-of w64 (mag (z' c.before)) (turned_to c) (smaller c))
-    (λ c. rw (turned_to c) (one_fits c))
-    (λ c. ap (λ (n : ℕ). n + 1) (ap nat_abs (turned_to c)) ∙ one_more (z' c.before) (test (z' c.before) (f' c.before) c.if-z-lt0.true))
-    (λ c. cast-of w64 (nat_abs (z' c.before)) (kept (z' c.before) (f' c.before) c.if-z-lt0.false) (size_fits (z' c.before) (f' c.before)))
-    (λ c. ap nat_abs (kept (z' c.before) (f' c.before) c.if-z-lt0.false)))
-  where
-    z' : tie.Start → ℤ
-    z' c = c.args.z
-
-    f' : (c : tie.Start) → SFits w64 (z' c)
-    f' c = c.ranges.z
-
-    turned_to : (c : tie.Then-z-lt0) → to_z w64 (of_z w64 (pos 0 -ℤ to_z w64 (of_z w64 (to_z w64 (of_z w64 (z' c.before)) +ℤ pos 1)))) ≡ pos (mag (z' c.before))
-    turned_to c = result (z' c.before) (f' c.before) c.if-z-lt0.true
-
-    one_fits : (c : tie.Then-z-lt0) → Fits w64 (mag (z' c.before) + 1)
-    one_fits c = rw (one_more (z' c.before) (test (z' c.before) (f' c.before) c.if-z-lt0.true)) (size_fits (z' c.before) (f' c.before))
-
-    smaller : (c : tie.Then-z-lt0) → Fits w64 (mag (z' c.before))
-    smaller c = record { fits = omega (arith, (one_fits c).fits) }
+    (tie.spec (λ c. fits_of w64 (up c.args.z c.ranges.z (cc)) c.ranges.z.sfits)
+    (λ c. fits_of w64 (turn c.args.z c.ranges.z (cc)) c.ranges.z.sfits)
+    (λ c. cast-of w64 (mag c.args.z) (result c.args.z c.ranges.z (cc)) (smaller c.args.z c.ranges.z (cc)))
+    (λ c. rw (result c.args.z c.ranges.z (cc)) (one_fits c.args.z c.ranges.z (cc)))
+    (λ c. ap (λ (n : ℕ). n + 1) (ap nat_abs (result c.args.z c.ranges.z (cc))) ∙ one_more c.args.z (test c.args.z c.ranges.z (cc)))
+    (λ c. cast-of w64 (nat_abs c.args.z) (kept c.args.z c.ranges.z (cc)) (size_fits c.args.z c.ranges.z))
+    (λ c. ap nat_abs (kept c.args.z c.ranges.z (cc))))
