@@ -60,7 +60,7 @@ use Rattle.histories.specs.History.{reached, subframe1_for, subframe2_for, subfr
 use Rattle.histories.proofs.laws.History.{latest_is}
 use Rattle.histories.proofs.laws.Sets.{set_given}
 use Rattle.ranking.specs.Ranking as Ranking
-use Rattle.ranking.specs.laws.Ways as Ranked
+use Rattle.ranking.proofs.laws.Ways as Ranked
 use Rattle.clock.specs.Terms as Terms
 use Rattle.accuracy.specs.Accuracy as Accuracy
 use Rattle.day.specs.Day.{time_at}

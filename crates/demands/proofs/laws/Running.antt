@@ -38,8 +38,8 @@ use Rattle.histories.specs.History as History
 use Rattle.histories.specs.History.{reached, IsSet}
 use Rattle.ranking.specs.Ranking as Ranking
 use Rattle.ranking.specs.Ranking.{ranked_answer, times_in}
-use Rattle.ranking.specs.laws.Ways.{after_list}
-use Rattle.ranking.specs.laws.Histories.{ranked_exactly}
+use Rattle.ranking.proofs.laws.Ways.{after_list}
+use Rattle.ranking.proofs.laws.Histories.{ranked_exactly}
 use Rattle.ranking.specs.declared.ranking.Ranked.{Ranked}
 use Rattle.demands.specs.Detected.{Detected, pair, word}
 use Rattle.demands.proofs.laws.Demands as Demands
