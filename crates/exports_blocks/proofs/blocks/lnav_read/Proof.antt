@@ -15,7 +15,7 @@ unfolding reading_answer reading_told told checked_answer from_value number deta
 returns c =
     let read = sym (ap reading_answer c.in-Accepted.is) ∙ c.read.ensures in (
       (λ i. record { answer = c.answer_of.ensures i; kind = c.kind_number.ensures i }) ∙ ap reading_told read,
-      c.values_of.ensures ∙ ap (from_value c.args.values.now values_of) read,
+      cc (ap (from_value c.args.values.now values_of) read),
     )
 
 returns-2 : tie.Need-returns-in-Refused

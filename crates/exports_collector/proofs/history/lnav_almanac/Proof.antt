@@ -23,7 +23,7 @@ unfolding values_of given_almanac_answer told checked_answer from_value number d
 returns c =
     let a = c.args in
     let given = sym (ap given_almanac_answer c.in-Given.is) ∙ answered c.before.before.before in
-    (c.answer_of.ensures ∙ ap told given, c.values_of.ensures ∙ ap (from_value a.values.now values_of_almanac) given)
+    (c.answer_of.ensures ∙ ap told given, cc (ap (from_value a.values.now values_of_almanac) given))
 
 returns-2 : tie.Need-returns-in-Refused
 unfolding given_almanac_answer told checked_answer from_value number detail
