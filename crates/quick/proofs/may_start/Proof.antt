@@ -2,6 +2,7 @@
 use mathlib.Core.Path.{◌≡◌, sym, ◌∙◌}
 use mathlib.Core.Bool.{false}
 use Prim.Native.Nat.{ℕ}
+use native.Mathlib.Omega.{arith}
 use borrow.Author.Rules.{rules}
 use borrow.Author.Tests.{eq-eqb, ne_eqb}
 use Rattle.bits.specs.Bits.{bits_at}
@@ -33,19 +34,14 @@ returns c =
     let pair : c.pair_is.result ≡ pair_is (block d 0) (block d 1) 0 = c.pair_is.ensures in
     pair ∙ upright (block d) d.preamble_bytes-bytes.result d.preamble_bytes-bytes.ensures c.if-bytes-eq-UPRIGHT.true
 
-returns-2 : tie.Need-returns-then-bytes-eq-INVERTED
-returns-2 c =
-    let d = c.before.before.before in
-    let pair : c.pair_is-then-bytes-eq-INVERTED.result ≡ pair_is (block d 0) (block d 1) 1 = c.pair_is-then-bytes-eq-INVERTED.ensures in
-    pair
-    ∙ inverted (block d) d.preamble_bytes-bytes.result d.preamble_bytes-bytes.ensures c.if-bytes-eq-UPRIGHT.false c.if-bytes-eq-INVERTED.true
-
-returns-3 : tie.Need-returns
-returns-3 c =
-    let d = c.before.before in
-    neither (block d) d.preamble_bytes-bytes.result d.preamble_bytes-bytes.ensures c.if-bytes-eq-UPRIGHT.false c.if-bytes-eq-INVERTED.false
-
 pub may_start_spec : {M : Type 1} → statement M
 may_start_spec =
     tie.close
-    (tie.spec (λ c κs. search rules) (λ c κs. search rules) returns (λ c κs. search rules) returns-2 returns-3)
+    (tie.spec (λ c κs. search rules) (λ c κs. search rules) returns (λ c κs. search rules)
+    (λ c.
+    let d = c.before.before.before in
+    let way = inverted (block d) d.preamble_bytes-bytes.result d.preamble_bytes-bytes.ensures (omega arith) (omega arith) in
+    cc)
+    (λ c.
+    let d = c.before.before in
+    neither (block d) d.preamble_bytes-bytes.result d.preamble_bytes-bytes.ensures (omega arith) (omega arith)))

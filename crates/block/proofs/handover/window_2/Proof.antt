@@ -15,18 +15,13 @@ past_end : (s : List ℕ) (p : ℕ) → length s ≤ p → 0 ≡ pack 32 (bits_a
 unfolding pack
 past_end s p h = sym (pack-equal 32 (bits_at s p) (λ j. 0) (λ j l. get_or-eq_default s 0 {n = p + j} (omega arith)))
 
-returns : tie.Need-returns-then-log-p
-returns c =
-    let a = c.before.before.args in
-    past_end a.log.now (a.p + 30) (omega arith)
-
-returns-2 : tie.Need-returns-then-log-p-le30
-returns-2 c =
-    let a = c.before.before.before.args in
-    past_end a.log.now (a.p + 30) (omega arith)
-
-returns-3 : tie.Need-returns
-returns-3 c = c.packed_window.ensures
-
 pub window_2_spec : {M : Type 1} → statement M
-window_2_spec = tie.close (tie.spec returns (λ c. search rules) returns-2 (λ c. search rules) (λ c κs. search rules) returns-3)
+window_2_spec =
+    tie.close
+    (tie.spec
+    (λ c. past_end c.before.before.args.log.now (c.before.before.args.p + 30) (omega arith))
+    (λ c. search rules)
+    (λ c. past_end c.before.before.before.args.log.now (c.before.before.before.args.p + 30) (omega arith))
+    (λ c. search rules)
+    (λ c κs. search rules)
+    (λ c. c.packed_window.ensures))

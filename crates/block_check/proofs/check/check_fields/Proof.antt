@@ -73,27 +73,8 @@ returns-4 c =
     let d = c.before.before in
     c.refused-then-number-eq0.ensures ∙ way_8_none (block2 (else2 d)) (framed d) _ d.subframe_number_at-number.ensures c.if-number-eq0.true
 
-returns-5 : tie.Need-returns-then-number-gt5
-returns-5 c =
-    let d = c.before.before.before in
-    c.refused-then-number-gt5.ensures
-    ∙ way_8_above (block2 (else2 d)) (framed d) _ d.subframe_number_at-number.ensures c.if-number-eq0.false (omega (arith, c.if-number-gt5.true))
-
-returns-6 : tie.Need-returns-then-count-gt-LARGEST_COUNT
-returns-6 c =
-    let e = c.before.before in
-    let d = e.before.before.before in
-    c.refused-then-count-gt-LARGEST_COUNT.ensures
-    ∙ way_9 (block2 (else2 d)) (framed d) _ d.subframe_number_at-number.ensures e.if-number-eq0.false (omega (arith, e.if-number-gt5.false)) _ e.count_at-count.ensures (omega (arith, c.if-count-gt-LARGEST_COUNT.true))
-
-returns-7 : tie.Need-returns
-unfolding checked_answer
-returns-7 c =
-    let e = c.before in
-    let d = e.before.before.before in
-    way_0 (block2 (else2 d)) (framed d) _ d.subframe_number_at-number.ensures e.if-number-eq0.false (omega (arith, e.if-number-gt5.false)) _ e.count_at-count.ensures (omega (arith, c.if-count-gt-LARGEST_COUNT.false))
-
 pub check_fields_spec : {M : Type 1} → statement M
+unfolding checked_answer
 check_fields_spec =
     tie.close
     (tie.spec
@@ -111,8 +92,18 @@ check_fields_spec =
     (λ c κs. search rules)
     returns-4
     (λ c κs. search rules)
-    returns-5
+    (λ c.
+    let d = c.before.before.before in
+    let way = way_8_above (block2 (else2 d)) (framed d) _ d.subframe_number_at-number.ensures c.if-number-eq0.false (omega arith) in
+    cc)
     (λ c κs. search rules)
     (λ c κs. search rules)
-    returns-6
-    returns-7)
+    (λ c.
+    let e = c.before.before in
+    let d = e.before.before.before in
+    let way = way_9 (block2 (else2 d)) (framed d) _ d.subframe_number_at-number.ensures e.if-number-eq0.false (omega arith) _ e.count_at-count.ensures (omega arith) in
+    cc)
+    (λ c.
+    let e = c.before in
+    let d = e.before.before.before in
+    way_0 (block2 (else2 d)) (framed d) _ d.subframe_number_at-number.ensures e.if-number-eq0.false (omega arith) _ e.count_at-count.ensures (omega arith)))
