@@ -71,7 +71,6 @@ fn subframe3_from(header: Header, n: &[u32; MOST_FIELDS]) -> Subframe3
     }
 }
 
-#[tactic(auto, unfolding(layout::specs::Table::values_from, record::specs::Record::joined))]
 fn almanac_from(header: Header, n: &[u32; MOST_FIELDS]) -> AlmanacPage
     ensures { result ≡ almanac_of header (values_from almanac_fields 0 n.now) }
 {
