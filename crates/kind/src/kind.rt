@@ -17,6 +17,7 @@ fn is_page(subframe: u32) -> bool
 }
 
 // Whether a page with this data ID field and ID is an almanac page.
+#[tactic(auto, unfolding(record::specs::Kind::is_almanac))]
 fn is_almanac(subframe: u32, data_id: u32, id: u32) -> bool
     ensures { result ≡ is_almanac subframe data_id id }
 {
@@ -33,6 +34,7 @@ fn is_almanac(subframe: u32, data_id: u32, id: u32) -> bool
 }
 
 // Whether it is the UTC page.
+#[tactic(auto, unfolding(record::specs::Kind::is_utc))]
 fn is_utc(subframe: u32, data_id: u32, id: u32) -> bool
     ensures { result ≡ is_utc subframe data_id id }
 {

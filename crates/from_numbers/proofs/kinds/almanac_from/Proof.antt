@@ -1,39 +1,38 @@
--- `almanac_from` meets its contract: each field is what its call ensures (ck is after call k).
-use mathlib.Core.Path.{◌≡◌, ◌∙◌}
+-- `almanac_from` meets its contract: each field is what its call ensures.
+use mathlib.Core.Path.{◌≡◌, refl}
 use native.Mathlib.Omega.{arith}
+use borrow.Author.Rules.{rules}
 use lib.Dec.{lit<, lit≤}
-use lib.ListN.{get_or}
-use mir.Syntax.{w32}
-use mir.Val.{to_z, of_z}
-use Rattle.integers.specs.laws.Machine.{as_held}
 use Rattle.layout.specs.Table.{values_from}
 use Rattle.record.specs.Record.{joined}
+use Rattle.record.specs.declared.record.AlmanacPage.{AlmanacPage}
 use Rattle.from_numbers.proofs.kinds.almanac_from.Statement.{statement}
 use Rattle.from_numbers.proofs.kinds.almanac_from.Tie as tie
 
-returns : tie.Need-returns
-unfolding values_from joined
-returns c =
-    let a = c.args in
-    let joined-right : to_z w32 (of_z w32 c.signed_of.result) ≡ joined (get_or a.n.now 11 0) (get_or a.n.now 13 0) = as_held c.signed_of.ensures ∙ (λ i. joined (c.unsigned_at-7.ensures i) (c.unsigned_at-8.ensures i)) in
+-- two pages with the same fields
+same_page : {p q : AlmanacPage} → p.header ≡ q.header → p.data_id ≡ q.data_id → p.sv_id ≡ q.sv_id → p.e ≡ q.e → p.toa ≡ q.toa → p.delta_i ≡ q.delta_i → p.node_rate ≡ q.node_rate
+    → p.health ≡ q.health → p.root_a ≡ q.root_a → p.node ≡ q.node → p.perigee ≡ q.perigee → p.m0 ≡ q.m0 → p.af0 ≡ q.af0 → p.af1 ≡ q.af1 → p ≡ q
+same_page header data_id sv_id e toa delta_i node_rate health root_a node perigee m0 af0 af1 =
     λ i. record {
-      header = a.header;
-      data_id = c.unsigned_at.ensures i;
-      sv_id = c.unsigned_at-2.ensures i;
-      e = c.unsigned_at-3.ensures i;
-      toa = c.unsigned_at-4.ensures i;
-      delta_i = as_held c.signed_at.ensures i;
-      node_rate = as_held c.signed_at-2.ensures i;
-      health = c.unsigned_at-5.ensures i;
-      root_a = c.unsigned_at-6.ensures i;
-      node = as_held c.signed_at-3.ensures i;
-      perigee = as_held c.signed_at-4.ensures i;
-      m0 = as_held c.signed_at-5.ensures i;
-      af0 = joined-right i;
-      af1 = as_held c.signed_at-6.ensures i;
+      header = header i;
+      data_id = data_id i;
+      sv_id = sv_id i;
+      e = e i;
+      toa = toa i;
+      delta_i = delta_i i;
+      node_rate = node_rate i;
+      health = health i;
+      root_a = root_a i;
+      node = node i;
+      perigee = perigee i;
+      m0 = m0 i;
+      af0 = af0 i;
+      af1 = af1 i;
     }
 
 pub almanac_from_spec : {M : Type 1} → statement M
+unfolding values_from joined
 almanac_from_spec =
     tie.close
-    (tie.spec (λ c κs. lit< tt) (λ c κs. lit< tt) (λ c κs. lit< tt) (λ c κs. lit< tt) (λ c κs. (lit< tt, lit< tt, lit≤ tt)) (λ c κs. (lit< tt, lit< tt, lit≤ tt)) (λ c κs. lit< tt) (λ c κs. lit< tt) (λ c κs. (lit< tt, lit< tt, lit≤ tt)) (λ c κs. (lit< tt, lit< tt, lit≤ tt)) (λ c κs. (lit< tt, lit< tt, lit≤ tt)) (λ c κs. lit< tt) (λ c. omega arith) (λ c κs. lit< tt) (λ c. omega arith) (λ c κs. (lit< tt, lit≤ tt)) (λ c κs. (lit< tt, lit< tt, lit≤ tt)) returns)
+    (tie.spec (λ c κs. lit< tt) (λ c κs. lit< tt) (λ c κs. lit< tt) (λ c κs. lit< tt) (λ c κs. (lit< tt, lit< tt, lit≤ tt)) (λ c κs. (lit< tt, lit< tt, lit≤ tt)) (λ c κs. lit< tt) (λ c κs. lit< tt) (λ c κs. (lit< tt, lit< tt, lit≤ tt)) (λ c κs. (lit< tt, lit< tt, lit≤ tt)) (λ c κs. (lit< tt, lit< tt, lit≤ tt)) (λ c κs. lit< tt) (λ c. omega arith) (λ c κs. lit< tt) (λ c. omega arith) (λ c κs. (lit< tt, lit≤ tt)) (λ c κs. (lit< tt, lit< tt, lit≤ tt))
+    (λ c. same_page refl (search rules) (search rules) (search rules) (search rules) (search rules) (search rules) (search rules) (search rules) (search rules) (search rules) (search rules) (search rules) (search rules)))
