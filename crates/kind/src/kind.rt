@@ -17,7 +17,6 @@ fn is_page(subframe: u32) -> bool
 }
 
 // Whether a page with this data ID field and ID is an almanac page.
-#[tactic(auto, unfolding(record::specs::Kind::is_almanac))]
 fn is_almanac(subframe: u32, data_id: u32, id: u32) -> bool
     ensures { result ≡ is_almanac subframe data_id id }
 {
