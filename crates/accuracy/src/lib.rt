@@ -3,23 +3,16 @@
 
 ghost use Rattle.std.specs.Prelude.{◌≡◌, map};
 ghost use Rattle.accuracy.specs.Accuracy as Accuracy;
-ghost use Rattle.accuracy.specs.Accuracy.{predicted, tenths, nearest_tenths, accuracy_for, given_accuracy_answer};
+ghost use Rattle.accuracy.specs.Accuracy.{predicted, accuracy_answer, tenths, nearest_tenths, accuracy_for};
 
-use answer::{Refusal, refusal_by};
+use answer::Refusal;
 use record::{Record, Subframe1};
 
-// A length in metres, or that no prediction exists.
-#[derive(Clone, Copy)]
+// A length in metres, or that no prediction exists. Document 01 names this form, so that the case of index 15 has a name.
+#[derive(Clone, Copy, Debug)]
 pub enum UserRangeAccuracy {
     Metres(f64),
     NoPrediction,
-}
-
-// The answer to the question for the accuracy.
-#[derive(Clone, Copy)]
-pub enum GivenAccuracy {
-    Given(UserRangeAccuracy),
-    Refused(Refusal),
 }
 
 // The length for each index from 0 to 14.
@@ -37,19 +30,17 @@ fn metres_table() -> [f64; 15]
 fn accuracy_for(ura: u32) -> UserRangeAccuracy
     ensures { predicted result ≡ accuracy_for ura }
 {
-    if ura < 15 {
-        UserRangeAccuracy::Metres(metres_table()[ura as usize])
-    } else {
-        UserRangeAccuracy::NoPrediction
+    match metres_table().get(ura as usize) {
+        Some(metres) => UserRangeAccuracy::Metres(*metres),
+        None => UserRangeAccuracy::NoPrediction,
     }
 }
 
 // The accuracy of a record that the writer takes.
-pub fn accuracy(r: Subframe1) -> GivenAccuracy
-    ensures { given_accuracy_answer result ≡ Accuracy.accuracy r }
+#[tactic(auto, unfolding(crate::specs::Accuracy::accuracy, answer::specs::Answer::refuse_if, writable::specs::Check::check_writable))]
+pub fn accuracy(r: Subframe1) -> Result<UserRangeAccuracy, Refusal>
+    ensures { accuracy_answer result ≡ Accuracy.accuracy r }
 {
-    if !writable::writable(Record::Subframe1(r)) {
-        return GivenAccuracy::Refused(refusal_by(11, 0));
-    }
-    GivenAccuracy::Given(accuracy_for(r.ura))
+    writable::check_writable(Record::Subframe1(r))?;
+    Ok(accuracy_for(r.ura))
 }

@@ -2,4 +2,5 @@
 pub mod Block
 pub mod Polarity
 pub mod Syndrome
+pub mod View
 pub mod laws

@@ -1,5 +1,5 @@
 -- Definitions. The syndrome of a word of the block at a place of a log (document 02, request 2).
-use Rattle.std.specs.Prelude.{Bool, cond, ◌&&◌, List, ℕ, ◌+◌, ◌*◌, leb, length}
+use Rattle.std.specs.Prelude.{Bool, cond, ◌&&◌, List, ℕ, ◌+◌, ◌*◌, leb, length, Option, Some, None}
 use Rattle.bits.specs.Bits.{bits_at}
 use Rattle.parity.specs.Word.{syndrome}
 use Rattle.block.specs.Block.{window}
@@ -8,6 +8,10 @@ use Rattle.block.specs.Block.{window}
 unfoldable pub has_word : List ℕ → ℕ → ℕ → Bool
 has_word s p k = (leb 1 k && leb k 10) && leb (p + (30 * k + 2)) (length s)
 
--- the syndrome of that word; 64, which is no six-bit number, where there is none
+-- the syndrome of that word, where it is there
+unfoldable pub word_syndrome : List ℕ → ℕ → ℕ → Option ℕ
+word_syndrome s p k = cond (has_word s p k) (Some (syndrome (window (bits_at s p) k))) None
+
+-- the same as a number; 64, which is no six-bit number, where there is none
 unfoldable pub syndrome_at : List ℕ → ℕ → ℕ → ℕ
 syndrome_at s p k = cond (has_word s p k) (syndrome (window (bits_at s p) k)) 64

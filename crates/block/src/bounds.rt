@@ -19,10 +19,7 @@ pub const LARGEST_COUNT: usize = 100799;
 fn has_bytes(log: &[u8], p: usize, n: usize) -> bool
     ensures { result ≡ leb (p + n) (length log.now) }
 {
-    if log.len() < n {
-        return false;
-    }
-    p <= log.len() - n
+    log.len().checked_sub(n).is_some_and(|last| p <= last)
 }
 
 // Whether the bytes of a block are left from place p of a log on.
@@ -33,14 +30,9 @@ pub fn has_room(log: &[u8], p: usize) -> bool
 }
 
 // Whether a block at place p of a log has a word k, 1 to 10, and the bytes of its window are left.
+#[tactic(auto, unfolding(crate::specs::Syndrome::has_word))]
 pub fn has_word(log: &[u8], p: usize, k: usize) -> bool
     ensures { result ≡ has_word log.now p k }
 {
-    if k < 1 {
-        return false;
-    }
-    if 10 < k {
-        return false;
-    }
-    has_bytes(log, p, 30 * k + 2)
+    (1..=10).contains(&k) && has_bytes(log, p, 30 * k + 2)
 }

@@ -8,13 +8,7 @@ ghost use Rattle.block.specs.Block.{count, subframe_number};
 fn window_2(log: &[u8], p: usize) -> u32
     ensures { result ≡ pack 32 (bits_at log.now (p + 30)) }
 {
-    if log.len() <= p {
-        return 0;
-    }
-    if log.len() - p <= 30 {
-        return 0;
-    }
-    parity::packed_window(log, p + 30)
+    parity::packed_window(log, p.saturating_add(30))
 }
 
 // The source bits of the handover word.

@@ -4,9 +4,11 @@
 mod bounds;
 mod handover;
 mod polarity;
+mod view;
 mod word;
 
 pub use bounds::{BLOCK_BYTES, BLOCK_STEP, LARGEST_COUNT, LOG_LIMIT, has_room, has_word};
 pub use handover::{count_at, subframe_number_at};
 pub use polarity::{Polarity, polarity_at};
-pub use word::{NO_SYNDROME, syndrome_at};
+pub use view::BlockAt;
+pub use word::syndrome_at;

@@ -1,120 +1,98 @@
 // The block check: accepted, or refused by the numbers 1 to 9 in the order of document 01's table.
-ghost use Rattle.std.specs.Prelude.{◌≡◌, ◌+◌, ◌≤◌, length};
+ghost use Rattle.std.specs.Prelude.{◌≡◌, ◌<◌, ◌≤◌, MatchOption};
 ghost use Rattle.bits.specs.Bits.{bits_at};
-ghost use Rattle.answer.specs.Answer as Answer;
-ghost use Rattle.answer.specs.Answer.{checked_answer};
+ghost use Rattle.answer.specs.Answer.{answer_of};
 ghost use Rattle.block_check.specs.Check as Check;
 ghost use Rattle.block_check.specs.Check.{ends_alike, first_above, first_broken};
 
-use answer::{Checked, refusal_by};
-use block::{count_at, has_room, subframe_number_at};
+use answer::Refusal;
+use block::BlockAt;
 
-// Refused by this number, with this detail.
-fn refused(number: u8, detail: usize) -> Checked
-    ensures { checked_answer result ≡ Answer.refused number detail }
+// The index of the block's first byte above 1.
+fn first_above(block: BlockAt) -> Option<usize>
+    ensures { MatchOption result (first_above (bits_at block.entry.log.now block.entry.place) ≡ 302) (λ i. (i < 302) × (first_above (bits_at block.entry.log.now block.entry.place) ≡ i)) }
 {
-    Checked::Refused(refusal_by(number, detail))
-}
-
-// The index in the block at p of its first byte above 1, or 302.
-fn first_above(log: &[u8], p: usize) -> usize
-    requires { p + 302 ≤ length log.now }
-    ensures { result ≡ first_above (bits_at log.now p) }
-{
-    let mut i: usize = 0;
-    while i < block::BLOCK_BYTES {
-        if 1 < log[p + i] {
-            return i;
+    for i in 0..block::BLOCK_BYTES {
+        let byte = block.log[block.place + i];
+        if 1 < byte {
+            return Some(i);
         }
-        i += 1;
     }
-    i
+    None
 }
 
-// The first word of the block at p that breaks the parity table, or 11.
-fn first_broken(log: &[u8], p: usize) -> usize
-    requires { p + 302 ≤ length log.now }
-    ensures { result ≡ first_broken (bits_at log.now p) }
+// The block's first word that breaks the parity table.
+fn first_broken(block: BlockAt) -> Option<usize>
+    ensures { MatchOption result (first_broken (bits_at block.entry.log.now block.entry.place) ≡ 11) (λ k. (k < 11) × (first_broken (bits_at block.entry.log.now block.entry.place) ≡ k)) }
 {
-    let mut k: usize = 1;
-    while k <= 10 {
-        if !parity::word_passes(parity::packed_window(log, p + 30 * (k - 1))) {
-            return k;
+    for k in 1..=10 {
+        if !parity::word_passes(parity::packed_window(block.log, block.place + 30 * (k - 1))) {
+            return Some(k);
         }
-        k += 1;
     }
-    k
+    None
 }
 
-// Whether the last two bits of word k of the block at p equal the start pair.
-fn ends_alike(log: &[u8], p: usize, k: usize) -> bool
-    requires { (p + 302 ≤ length log.now) × ((1 ≤ k) × (k ≤ 10)) }
-    ensures { result ≡ ends_alike (bits_at log.now p) k }
+// Whether the last two bits of word k equal the start pair.
+fn ends_alike(block: BlockAt, k: usize) -> bool
+    requires { (1 ≤ k) × (k ≤ 10) }
+    ensures { result ≡ ends_alike (bits_at block.entry.log.now block.entry.place) k }
 {
-    let end = p + 30 * k;
-    if log[end] != log[p] {
-        return false;
-    }
-    log[end + 1] == log[p + 1]
+    block.byte(30 * k) == block.byte(0) && block.byte(30 * k + 1) == block.byte(1)
 }
 
-// Numbers 6 to 9, of the block at p.
-fn check_fields(log: &[u8], p: usize) -> Checked
-    requires { p + 302 ≤ length log.now }
-    ensures { checked_answer result ≡ Check.check_fields (bits_at log.now p) }
+// Numbers 6 to 9.
+fn check_fields(block: BlockAt) -> Result<(), Refusal>
+    ensures { answer_of result ≡ Check.check_fields (bits_at block.entry.log.now block.entry.place) }
 {
-    let telemetry = parity::source_bits(parity::packed_window(log, p));
+    let telemetry = parity::source_bits(parity::packed_window(block.log, block.place));
     if telemetry / 0x10000 % 0x100 != 0b10001011 {
-        return refused(6, 0);
+        return Err(Refusal::Preamble);
     }
-    if !ends_alike(log, p, 2) {
-        return refused(7, 2);
+    if !ends_alike(block, 2) {
+        return Err(Refusal::Ending(2));
     }
-    if !ends_alike(log, p, 10) {
-        return refused(7, 10);
+    if !ends_alike(block, 10) {
+        return Err(Refusal::Ending(10));
     }
-    let number = subframe_number_at(log, p);
-    if number == 0 {
-        return refused(8, number);
+    let number = block.subframe_number();
+    if number == 0 || 5 < number {
+        return Err(Refusal::SubframeNumber(number));
     }
-    if 5 < number {
-        return refused(8, number);
-    }
-    let count = count_at(log, p);
+    let count = block.count();
     if block::LARGEST_COUNT < count {
-        return refused(9, count);
+        return Err(Refusal::Count(count));
     }
-    Checked::Accepted
+    Ok(())
 }
 
-// Numbers 2, 4 and 5, then those, of the block at p.
-fn check_bits(log: &[u8], p: usize) -> Checked
-    requires { p + 302 ≤ length log.now }
-    ensures { checked_answer result ≡ Check.check_bits p (bits_at log.now p) }
+// Numbers 2, 4 and 5, then those.
+#[tactic(auto, using(crate::specs::laws::Ways::way_2, crate::specs::laws::Ways::way_4, crate::specs::laws::Ways::way_5, crate::specs::laws::Ways::way_fields))]
+fn check_bits(block: BlockAt) -> Result<(), Refusal>
+    ensures { answer_of result ≡ Check.check_bits block.entry.place (bits_at block.entry.log.now block.entry.place) }
 {
-    let i = first_above(log, p);
-    if i < block::BLOCK_BYTES {
-        return refused(2, p + i);
+    if let Some(i) = first_above(block) {
+        return Err(Refusal::ByteAbove1(block.place + i));
     }
-    if log[p] != log[p + 1] {
-        return refused(4, p);
+    if block.byte(0) != block.byte(1) {
+        return Err(Refusal::StartPair(block.place));
     }
-    let k = first_broken(log, p);
-    if k < 11 {
-        return refused(5, k);
+    if let Some(k) = first_broken(block) {
+        return Err(Refusal::WordBroken(k));
     }
-    check_fields(log, p)
+    check_fields(block)
 }
 
 // The block check at place p of a log.
-pub fn check_block(log: &[u8], p: usize) -> Checked
-    ensures { checked_answer result ≡ Check.check_block log.now p }
+#[tactic(auto, using(crate::specs::laws::Ways::way_1))]
+pub fn check_block(log: &[u8], p: usize) -> Result<(), Refusal>
+    ensures { answer_of result ≡ Check.check_block log.now p }
 {
     if block::LOG_LIMIT < log.len() {
-        return refused(1, log.len());
+        return Err(Refusal::LogTooLong(log.len()));
     }
-    if !has_room(log, p) {
-        return refused(3, p);
-    }
-    check_bits(log, p)
+    let Some(block) = BlockAt::new(log, p) else {
+        return Err(Refusal::TooFewBytes(p));
+    };
+    check_bits(block)
 }

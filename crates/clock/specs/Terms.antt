@@ -1,18 +1,11 @@
 -- Definitions. The clock terms of a subframe 1 (document 01, 'Fields of words 3 to 10').
 use Rattle.std.specs.Prelude.{not}
-use Rattle.answer.specs.Answer.{Answer, accepted, refuse_if, refusal_answer}
+use Rattle.answer.specs.Answer.{Answer, accepted, refuse_if}
 use Rattle.doubles.specs.Scaled.{scaled}
 use Rattle.record.specs.Writable.{writable}
 use Rattle.record.specs.declared.record.Subframe1.{Subframe1}
 use Rattle.record.specs.declared.record.Record.TheVariants as R
 use Rattle.clock.specs.declared.terms.ClockTerms.{ClockTerms}
-use Rattle.clock.specs.declared.terms.GivenTerms.{GivenTerms}
-use Rattle.clock.specs.declared.terms.GivenTerms.TheVariants.{Given, Refused}
-
--- what the code's answer says
-unfoldable pub given_terms_answer : GivenTerms → Answer ClockTerms
-given_terms_answer (Given t) = accepted t
-given_terms_answer (Refused r) = refusal_answer r
 
 -- TGD 2^-31, af0 2^-31, af1 2^-43, af2 2^-55
 unfoldable pub terms_of : Subframe1 → ClockTerms

@@ -3,4 +3,4 @@
 
 mod terms;
 
-pub use terms::{ClockTerms, GivenTerms, clock_terms};
+pub use terms::{ClockTerms, clock_terms};

@@ -1,25 +1,18 @@
 // The clock terms of a subframe 1: four doubles, each exact.
 ghost use Rattle.std.specs.Prelude.{◌≡◌};
+ghost use Rattle.answer.specs.Answer.{answer_of};
 ghost use Rattle.clock.specs.Terms as Terms;
-ghost use Rattle.clock.specs.Terms.{given_terms_answer};
 
-use answer::{Refusal, refusal_by};
+use answer::Refusal;
 use record::{Record, Subframe1};
 
 // TGD and the terms of the clock's polynomial.
-#[derive(Clone, Copy)]
+#[derive(Clone, Copy, Debug, PartialEq)]
 pub struct ClockTerms {
     pub tgd: f64,
     pub af0: f64,
     pub af1: f64,
     pub af2: f64,
-}
-
-// The answer to the question for the clock terms.
-#[derive(Clone, Copy)]
-pub enum GivenTerms {
-    Given(ClockTerms),
-    Refused(Refusal),
 }
 
 // The scales: 2^-31 of TGD and af0, 2^-43 of af1, 2^-55 of af2.
@@ -33,19 +26,18 @@ fn terms_of(r: Subframe1) -> ClockTerms
     ensures { result ≡ Terms.terms_of r }
 {
     ClockTerms {
-        tgd: (r.tgd as f64) * SCALE_31,
-        af0: (r.af0 as f64) * SCALE_31,
-        af1: (r.af1 as f64) * SCALE_43,
-        af2: (r.af2 as f64) * SCALE_55,
+        tgd: f64::from(r.tgd) * SCALE_31,
+        af0: f64::from(r.af0) * SCALE_31,
+        af1: f64::from(r.af1) * SCALE_43,
+        af2: f64::from(r.af2) * SCALE_55,
     }
 }
 
 // The clock terms of a record that the writer takes.
-pub fn clock_terms(r: Subframe1) -> GivenTerms
-    ensures { given_terms_answer result ≡ Terms.clock_terms r }
+#[tactic(auto, unfolding(crate::specs::Terms::clock_terms, answer::specs::Answer::refuse_if, writable::specs::Check::check_writable))]
+pub fn clock_terms(r: Subframe1) -> Result<ClockTerms, Refusal>
+    ensures { answer_of result ≡ Terms.clock_terms r }
 {
-    if !writable::writable(Record::Subframe1(r)) {
-        return GivenTerms::Refused(refusal_by(11, 0));
-    }
-    GivenTerms::Given(terms_of(r))
+    writable::check_writable(Record::Subframe1(r))?;
+    Ok(terms_of(r))
 }

@@ -1,6 +1,5 @@
 -- Definitions. The questions to a collector (document 01, 'Finding and holding', and number 13 of its table).
-use Rattle.std.specs.Prelude.{Bool, true, false, not, ◌&&◌, ◌||◌, ℕ}
-use Rattle.std.proofs.Math.Option.{Option, none, some}
+use Rattle.std.specs.Prelude.{Bool, not, ◌&&◌, ◌||◌, ℕ, Option, is_some}
 use Rattle.answer.specs.Answer.{Answer, refuse_if}
 use Rattle.record.specs.declared.record.Subframe1.{Subframe1}
 use Rattle.record.specs.declared.record.Subframe2.{Subframe2}
@@ -30,12 +29,8 @@ utc_page c = Pages.utc_page c.pages
 
 -- ---- whether a subframe 1, 2 or 3 of satellite n is held
 
-unfoldable pub is_held : {A : Type 0} → Option A → Bool
-is_held none = false
-is_held (some a) = true
-
 unfoldable pub any_held : Option Subframe1 → Option Subframe2 → Option Subframe3 → Bool
-any_held held1 held2 held3 = is_held held1 || (is_held held2 || is_held held3)
+any_held held1 held2 held3 = is_some held1 || (is_some held2 || is_some held3)
 
 unfoldable pub holds_any : Collector → ℕ → Bool
 holds_any c n = is_satellite n && any_held (held_subframe1 c n) (held_subframe2 c n) (held_subframe3 c n)

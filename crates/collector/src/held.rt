@@ -15,12 +15,12 @@ pub struct Collector {
 
 impl Collector {
     // The collector that holds nothing.
+    #[tactic(auto, unfolding(crate::specs::Held::empty_collector))]
     pub fn empty() -> Self
         ensures { result ≡ empty_collector }
     {
-        let satellite = Satellite::empty();
         Collector {
-            satellites: [satellite; 32],
+            satellites: [Satellite::empty(); 32],
             pages: Pages::empty(),
         }
     }

@@ -5,5 +5,4 @@ mod feed;
 mod held;
 mod questions;
 
-pub use feed::Fed;
 pub use held::Collector;

@@ -1,11 +1,8 @@
-// What programs print.
+// What programs print: of an answer, and the listing.
 #![tactic(auto)]
 
-mod output;
-mod refusals;
+mod answers;
+mod listing;
 
-pub use output::{
-    complain, end_line, print, print_bits, print_byte, print_number, print_signed,
-    print_two_digits, say, space,
-};
-pub use refusals::{print_checked, print_phrase, print_refusal};
+pub use answers::{print_answer, print_checked, print_refusal};
+pub use listing::print_listing;

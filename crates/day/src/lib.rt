@@ -6,7 +6,7 @@ ghost use Rattle.integers.specs.Whole.{modulo};
 ghost use Rattle.day.specs.Day.{time_at};
 
 // A time of day.
-#[derive(Clone, Copy)]
+#[derive(Clone, Copy, Debug, PartialEq, Eq)]
 pub struct TimeOfDay {
     pub hour: u32,
     pub minute: u32,
@@ -17,15 +17,11 @@ pub struct TimeOfDay {
 pub fn modulo_day(t: i64) -> u32
     ensures { result ≡ modulo t 86400 }
 {
-    let rest = t % 86400;
-    if rest < 0 {
-        (rest + 86400) as u32
-    } else {
-        rest as u32
-    }
+    t.rem_euclid(86400) as u32
 }
 
 // A second of the day as hour, minute and second.
+#[tactic(auto, unfolding(crate::specs::Day::time_at))]
 pub fn time_at(s: u32) -> TimeOfDay
     ensures { result ≡ time_at s }
 {

@@ -3,70 +3,46 @@ ghost use Rattle.std.specs.Prelude.{◌≡◌, [], ◌∷◌};
 ghost use Rattle.digits.specs.Numbers as Numbers;
 ghost use Rattle.digits.specs.internal.Digits.{continued, with_sign};
 
-use crate::answers::{Number, Whole};
-
 // The number that digits write, where the digits before the last write n. None where the last byte is no digit or the number is not below 2^64.
-fn with_digit(n: u64, byte: u8) -> Number
+#[tactic(auto, using(crate::proofs::laws::Numbers::last_digit))]
+fn with_digit(n: u64, byte: u8) -> Option<u64>
     ensures { result ≡ continued n (byte ∷ []) }
 {
-    if byte < 48 {
-        return Number::Nothing;
+    if !byte.is_ascii_digit() {
+        return None;
     }
-    if 57 < byte {
-        return Number::Nothing;
-    }
-    let d = (byte - 48) as u64;
-    if (18446744073709551615 - d) / 10 < n {
-        return Number::Nothing;
-    }
-    Number::Value(n * 10 + d)
+    n.checked_mul(10)?.checked_add(u64::from(byte - b'0'))
 }
 
 // The number that a text writes. None where it is empty, has a byte that is no digit, or writes 2^64 or more.
-pub fn natural(text: &[u8]) -> Number
+pub fn natural(text: &[u8]) -> Option<u64>
     ensures { result ≡ Numbers.natural text.now }
 {
-    if text.len() == 0 {
-        return Number::Nothing;
+    if text.is_empty() {
+        return None;
     }
-    let mut value: u64 = 0;
-    let mut i: usize = 0;
-    while i < text.len() {
-        let Number::Value(next) = with_digit(value, text[i]) else {
-            return Number::Nothing;
-        };
-        value = next;
-        i += 1;
+    let mut value = 0;
+    for byte in text {
+        value = with_digit(value, *byte)?;
     }
-    Number::Value(value)
+    Some(value)
 }
 
 // A number with its sign, where it is below 2^63.
-fn signed(n: Number, minus: bool) -> Whole
+fn signed(n: Option<u64>, minus: bool) -> Option<i64>
     ensures { result ≡ with_sign minus n }
 {
-    let Number::Value(size) = n else {
-        return Whole::Nothing;
-    };
-    if 9223372036854775807 < size {
-        return Whole::Nothing;
-    }
-    if minus {
-        return Whole::Value(0 - (size as i64));
-    }
-    Whole::Value(size as i64)
+    let size = i64::try_from(n?).ok()?;
+    Some(if minus { -size } else { size })
 }
 
 // The number that a text writes, with or without a minus before the digits. None where there is no such number, or it is not below 2^63 in
 // size.
-pub fn whole(text: &[u8]) -> Whole
+pub fn whole(text: &[u8]) -> Option<i64>
     ensures { result ≡ Numbers.whole text.now }
 {
-    if text.len() == 0 {
-        return Whole::Nothing;
+    match text.strip_prefix(b"-") {
+        Some(digits) => signed(natural(digits), true),
+        None => signed(natural(text), false),
     }
-    if text[0] == 45 {
-        return signed(natural(&text[1..]), true);
-    }
-    signed(natural(text), false)
 }

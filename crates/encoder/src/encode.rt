@@ -1,4 +1,4 @@
-// The encoder: the word for a pair and 24 source bits, as a packed window. Of a number that stands for a bit only whether it is odd counts,
+// The encoder: the word for a pair and 24 source bits, as a packed window. The pair is two numbers, as the definitions have it. Of a number that stands for a bit only whether it is odd counts,
 // and of one that stands for source bits the lowest 24 digits.
 ghost use Rattle.std.specs.Prelude.{◌≡◌, ◌*◌};
 ghost use Rattle.bits.specs.Bits.{pack};

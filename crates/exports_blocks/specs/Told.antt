@@ -1,12 +1,11 @@
 -- Definitions. What the search, the polarity, the reader and the listing answer, as plain numbers: number and detail, then the value, 0 or false
 -- where the call is refused.
-use Rattle.std.specs.Prelude.{Bool, true, false, List, ℕ}
+use Rattle.std.specs.Prelude.{false, List, ℕ}
 use Rattle.bits.specs.Bits.{bits_at}
 use Rattle.answer.specs.Answer.{Answer, from_value, when_accepted}
 use Rattle.block_check.specs.Check as Check
-use Rattle.block.specs.Polarity.{polarity_of}
+use Rattle.block.specs.Polarity.{is_inverted, polarity_of}
 use Rattle.block.specs.declared.polarity.Polarity.{Polarity}
-use Rattle.block.specs.declared.polarity.Polarity.TheVariants.{Upright, Inverted}
 use Rattle.record.specs.declared.record.Record.{Record}
 use Rattle.kind.specs.Number.{kind_number}
 use Rattle.told.specs.Told.{told}
@@ -14,14 +13,6 @@ use Rattle.exports_blocks.specs.declared.blocks.LnavFound.{LnavFound}
 use Rattle.exports_blocks.specs.declared.blocks.LnavPolarity.{LnavPolarity}
 use Rattle.exports_blocks.specs.declared.blocks.LnavReading.{LnavReading}
 use Rattle.exports_blocks.specs.declared.listing.LnavListing.{LnavListing}
-
-unfoldable pub is_inverted : Polarity → Bool
-is_inverted Upright = false
-is_inverted Inverted = true
-
-unfoldable pub polarity_with : Bool → Polarity
-polarity_with false = Upright
-polarity_with true = Inverted
 
 -- the polarity of the block at place p of the log s, or the refusal of the block check
 unfoldable pub polarity_at : List ℕ → ℕ → Answer Polarity

@@ -1,13 +1,13 @@
 // The listing of a log.
 ghost use Rattle.std.specs.Prelude.{◌≡◌};
+ghost use Rattle.answer.specs.Answer.{answer_of};
 ghost use Rattle.listing_text.specs.Listing as Listing;
 ghost use Rattle.exports_blocks.specs.Told.{listing_told};
 
-use answer::Checked;
-use listing_text::Listed;
-use told::{LnavAnswer, answer_of};
+use answer::Refusal;
+use told::LnavAnswer;
 
-// The length of a listing.
+// The length of a listing. C has a struct of its own for it, beside that of a place.
 #[repr(C)]
 #[derive(Drop)]
 pub struct LnavListing {
@@ -15,19 +15,22 @@ pub struct LnavListing {
     pub length: usize,
 }
 
+impl From<Result<usize, Refusal>> for LnavListing {
+    ghost from_gives = { λ listed r. r ≡ listing_told (answer_of listed) };
+
+    #[tactic(auto, unfolding(crate::specs::Told::listing_told, answer::specs::Answer::from_value))]
+    fn from(listed: Result<usize, Refusal>) -> LnavListing {
+        LnavListing {
+            answer: LnavAnswer::from(listed),
+            length: listed.unwrap_or(0),
+        }
+    }
+}
+
 // Puts the listing of a log at the start of a buffer, or refuses and leaves the buffer as it was. Every listing fits.
 #[unsafe(no_mangle)]
 pub extern "C" fn lnav_list(log: &[u8], text: &mut [u8; 4096]) -> LnavListing
     ensures { (result ≡ listing_told (Listing.list log.now)) × (text.new ≡ Listing.buffer_after log.now text.old) }
 {
-    match listing_text::list(log, text) {
-        Listed::Length(n) => LnavListing {
-            answer: answer_of(Checked::Accepted),
-            length: n,
-        },
-        Listed::Refused(r) => LnavListing {
-            answer: answer_of(Checked::Refused(r)),
-            length: 0,
-        },
-    }
+    LnavListing::from(listing_text::list(log, text))
 }

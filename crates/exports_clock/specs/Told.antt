@@ -1,6 +1,5 @@
 -- Definitions. Clock terms, accuracy and time as plain numbers: number and detail, then the value, 0 where the call is refused.
-use Rattle.std.specs.Prelude.{Bool, true, false, Float}
-use Rattle.std.proofs.Math.Option.{Option, Option-elim}
+use Rattle.std.specs.Prelude.{Bool, false, Float, Option, is_some, unwrap_or}
 use Rattle.std.specs.Float.Ieee.{of_bits}
 use Rattle.std.specs.Float.{binary64}
 use Rattle.answer.specs.Answer.{Answer, from_value}
@@ -26,10 +25,10 @@ terms_told a =
 
 -- the length in metres, where there is one
 unfoldable pub is_predicted : Option Float → Bool
-is_predicted o = Option-elim o false (λ x. true)
+is_predicted o = is_some o
 
 unfoldable pub metres : Option Float → Float
-metres o = Option-elim o plus_zero (λ x. x)
+metres o = unwrap_or o plus_zero
 
 unfoldable pub accuracy_told : Answer (Option Float) → LnavRangeAccuracy
 accuracy_told a = record { answer = told a; predicted = from_value false is_predicted a; metres = from_value plus_zero metres a }

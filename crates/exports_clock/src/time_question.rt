@@ -1,15 +1,13 @@
 // From a GPS second to UTC.
 ghost use Rattle.std.specs.Prelude.{◌≡◌};
 ghost use Rattle.from_values.specs.FromValues as FromValues;
-ghost use Rattle.answer.specs.Answer.{refusal_answer, and_then};
+ghost use Rattle.answer.specs.Answer.{answer_of, and_then};
 ghost use Rattle.utc.specs.Time as Time;
-ghost use Rattle.utc.specs.Time.{given_time_answer};
 ghost use Rattle.exports_clock.specs.Told.{time_told};
 
-use answer::{Checked, Refusal};
-use from_values::GivenUtcPage;
-use told::{LnavAnswer, answer_of};
-use utc::GivenTime;
+use answer::Refusal;
+use day::TimeOfDay;
+use told::LnavAnswer;
 
 // A time of day.
 #[repr(C)]
@@ -21,38 +19,31 @@ pub struct LnavTime {
     pub second: u32,
 }
 
-fn refused_time(r: Refusal) -> LnavTime
-    ensures { result ≡ time_told (refusal_answer r) }
-{
-    LnavTime {
-        answer: answer_of(Checked::Refused(r)),
-        hour: 0,
-        minute: 0,
-        second: 0,
-    }
-}
+impl From<Result<TimeOfDay, Refusal>> for LnavTime {
+    ghost from_gives = { λ time r. r ≡ time_told (answer_of time) };
 
-fn told_time(g: GivenTime) -> LnavTime
-    ensures { result ≡ time_told (given_time_answer g) }
-{
-    match g {
-        GivenTime::Given(t) => LnavTime {
-            answer: answer_of(Checked::Accepted),
-            hour: t.hour,
-            minute: t.minute,
-            second: t.second,
-        },
-        GivenTime::Refused(r) => refused_time(r),
+    #[tactic(auto, unfolding(crate::specs::Told::time_told, answer::specs::Answer::from_value))]
+    fn from(time: Result<TimeOfDay, Refusal>) -> LnavTime {
+        let given = time.unwrap_or(TimeOfDay {
+            hour: 0,
+            minute: 0,
+            second: 0,
+        });
+        LnavTime {
+            answer: LnavAnswer::from(time),
+            hour: given.hour,
+            minute: given.minute,
+            second: given.second,
+        }
     }
 }
 
 // The time of day in UTC at a second of a full week, by the UTC page that has these values.
+#[tactic(auto, unfolding(answer::specs::Answer::and_then))]
 #[unsafe(no_mangle)]
 pub extern "C" fn lnav_time_of_day(values: &[i64; 25], week: u32, second: u32) -> LnavTime
     ensures { result ≡ time_told (and_then (FromValues.utc_page_with values.now) (λ page. Time.time_of_day page week second)) }
 {
-    match from_values::utc_page_with(values) {
-        GivenUtcPage::Given(page) => told_time(utc::time_of_day(page, week, second)),
-        GivenUtcPage::Refused(r) => refused_time(r),
-    }
+    let page = from_values::utc_page_with(values);
+    LnavTime::from(page.and_then(|page| utc::time_of_day(page, week, second)))
 }

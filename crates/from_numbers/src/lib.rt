@@ -1,7 +1,6 @@
 // A record from the numbers that stand in its fields.
 #![tactic(auto)]
 
-mod fields;
 mod kinds;
 mod signed;
 

@@ -1,30 +1,16 @@
-// Two's complement: a number of some width as a signed value.
-ghost use Rattle.std.specs.Prelude.{◌≡◌, ◌≤◌, ◌<◌, negsuc};
-ghost use Rattle.std.specs.Int.{w32};
-ghost use Rattle.std.proofs.Common.{SFits};
+// Two's complement: a number of some width as a signed value. The library has it for whole words alone.
+ghost use Rattle.std.specs.Prelude.{◌≡◌, ◌≤◌, ◌<◌};
 ghost use Rattle.layout.specs.Field.{signed};
 
-// -1 - m
-fn below_zero(m: u32) -> i32
-    requires { m < 2147483648 }
-    ensures { result ≡ negsuc m }
-{
-    -1 - m as i32
-}
-
-// The number n of `width` bits, read in two's complement.
+// The number n of `width` bits, read in two's complement; -1 where n is past the width.
 pub(crate) fn signed_of(n: u32, width: usize) -> i32
     requires { (0 < width) × (width ≤ 32) }
-    ensures { (result ≡ signed width n) × SFits w32 result }
+    ensures { result ≡ signed width n }
 {
     let half = 1u32 << (width - 1);
     if n < half {
-        return n as i32;
-    }
-    let over = n - half;
-    if over < half {
-        below_zero(half - 1 - over)
+        n as i32
     } else {
-        below_zero(0)
+        -1 - (half - 1 + half).saturating_sub(n) as i32
     }
 }

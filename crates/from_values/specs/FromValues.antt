@@ -3,7 +3,7 @@ use Rattle.std.specs.Prelude.{Bool, cond, not, ◌&&◌, List, ℕ, eqb, leb, �
 use Rattle.std.specs.Int.Signed.{le_z}
 use Rattle.finite.specs.Every.{every_below}
 use Rattle.integers.specs.Whole.{eq_z}
-use Rattle.answer.specs.Answer.{Answer, accepted, refuse_if, refusal_answer}
+use Rattle.answer.specs.Answer.{Answer, accepted, refuse_if}
 use Rattle.record.specs.declared.record.Header.{Header}
 use Rattle.record.specs.declared.record.Subframe1.{Subframe1}
 use Rattle.record.specs.declared.record.Subframe2.{Subframe2}
@@ -14,12 +14,6 @@ use Rattle.record.specs.declared.record.OtherPage.{OtherPage}
 use Rattle.record.specs.declared.record.Record.{Record}
 use Rattle.record.specs.declared.record.Record.TheVariants as R
 use Rattle.values.specs.Values.{values_of_subframe1, values_of_utc, values_of}
-use Rattle.from_values.specs.declared.question.GivenRecord.{GivenRecord}
-use Rattle.from_values.specs.declared.question.GivenRecord.TheVariants as GR
-use Rattle.from_values.specs.declared.question.GivenSubframe1.{GivenSubframe1}
-use Rattle.from_values.specs.declared.question.GivenSubframe1.TheVariants as GS
-use Rattle.from_values.specs.declared.question.GivenUtcPage.{GivenUtcPage}
-use Rattle.from_values.specs.declared.question.GivenUtcPage.TheVariants as GU
 
 unfoldable pub between : ℤ → ℤ → ℤ → Bool
 between low high z = le_z low z && le_z z high
@@ -172,19 +166,6 @@ unfoldable pub is_kind_number : ℕ → Bool
 is_kind_number kind = leb 1 kind && leb kind 6
 
 -- ---- the record that has given values; where there is none, they are refused as a record that the writer refuses
-
--- what the code's answers say
-unfoldable pub given_record_answer : GivenRecord → Answer Record
-given_record_answer (GR.Given r) = accepted r
-given_record_answer (GR.Refused r) = refusal_answer r
-
-unfoldable pub given_subframe1_answer : GivenSubframe1 → Answer Subframe1
-given_subframe1_answer (GS.Given r) = accepted r
-given_subframe1_answer (GS.Refused r) = refusal_answer r
-
-unfoldable pub given_utc_page_answer : GivenUtcPage → Answer UtcPage
-given_utc_page_answer (GU.Given r) = accepted r
-given_utc_page_answer (GU.Refused r) = refusal_answer r
 
 -- the record that is made from the values, if they are its values
 unfoldable pub having : {A : Type 0} → (A → List ℤ) → (List ℤ → A) → List ℤ → Answer A

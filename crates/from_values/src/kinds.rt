@@ -1,4 +1,5 @@
 // The record of a kind with these values. A value that the field's 32 bits do not hold gives 0 there.
+// A function for each kind, since they differ in their fields.
 ghost use Rattle.std.specs.Prelude.{◌≡◌};
 ghost use Rattle.from_values.specs.FromValues.{header_from, subframe1_from, subframe2_from, subframe3_from, almanac_from, utc_from, other_from, record_from};
 
@@ -144,7 +145,7 @@ fn other_from(v: &[i64; 25]) -> OtherPage
     }
 }
 
-// The record of the kind with this number: 1 to 3 for a subframe 1 to 3, 4 for an almanac page, 5 for the UTC page, and an other page else.
+// The record of the kind with C's number: 1 to 3 for a subframe 1 to 3, 4 for an almanac page, 5 for the UTC page, and an other page else.
 pub(crate) fn record_from(kind: u8, v: &[i64; 25]) -> Record
     ensures { result ≡ record_from kind v.now }
 {

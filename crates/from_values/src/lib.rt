@@ -5,6 +5,4 @@ mod kinds;
 mod numbers;
 mod question;
 
-pub use question::{
-    GivenRecord, GivenSubframe1, GivenUtcPage, record_with, subframe1_with, utc_page_with,
-};
+pub use question::{record_with, subframe1_with, utc_page_with};

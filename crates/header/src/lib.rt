@@ -10,6 +10,7 @@ ghost use Rattle.record.specs.Record.{header_of, header, header_values};
 use record::{Header, MOST_FIELDS, Record};
 
 // The header that has these numbers.
+#[tactic(auto, unfolding(layout::specs::Table::values_from))]
 pub fn header_from(n: [u32; MOST_FIELDS]) -> Header
     ensures { result ≡ header_of (values_from header_fields 0 n) }
 {
@@ -23,24 +24,12 @@ pub fn header_from(n: [u32; MOST_FIELDS]) -> Header
     }
 }
 
-fn header_of(r: Record) -> Header
-    ensures { result ≡ header r }
-{
-    match r {
-        Record::Subframe1(s) => s.header,
-        Record::Subframe2(s) => s.header,
-        Record::Subframe3(s) => s.header,
-        Record::Almanac(p) => p.header,
-        Record::Utc(p) => p.header,
-        Record::Other(p) => p.header,
-    }
-}
-
 // The numbers of the header.
+#[tactic(auto, unfolding(layout::specs::Table::numbers))]
 pub fn header_numbers(r: Record) -> [u32; MOST_FIELDS]
     ensures { result ≡ Table.numbers 19 header_fields (header_values (header r)) }
 {
-    let h = header_of(r);
+    let h = r.header();
     [
         h.message, h.reserved, h.count, h.flag18, h.flag19, h.subframe, 0, 0, 0, 0, 0, 0, 0, 0, 0,
         0, 0, 0, 0,

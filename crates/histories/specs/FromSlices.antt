@@ -1,6 +1,5 @@
 -- Definitions. The history of feeds that two slices state, and the questions after it.
-use Rattle.std.specs.Prelude.{List, [], ◌∷◌, ℕ, zero, suc, length, get_or}
-use Rattle.finite.specs.Least.{least}
+use Rattle.std.specs.Prelude.{List, [], ◌∷◌, ℕ, zero, suc, min, length, get_or}
 use Rattle.answer.specs.Answer.{Answer}
 use Rattle.collector.specs.Questions as Questions
 use Rattle.histories.specs.History.{Feed, reached}
@@ -15,7 +14,7 @@ feeds (suc n) s places satellites = record { log = s; place = get_or places n 0;
 
 -- as far as both slices go
 unfoldable pub history : List ℕ → List ℕ → List ℕ → List Feed
-history s places satellites = feeds (least (length places) (length satellites)) s places satellites
+history s places satellites = feeds (min (length places) (length satellites)) s places satellites
 
 -- ---- the questions to the collector that the history reaches from the empty one
 

@@ -1,6 +1,6 @@
 -- Definitions. A history of feeds, the collector that it reaches, and what of it is the latest.
-use Rattle.std.specs.Prelude.{◌≡◌, cond, List, [], ◌∷◌, ◌++◌, ℕ, eqb}
-use Rattle.std.proofs.Math.Option.{Option, none, some, bind, or_else}
+use Rattle.std.specs.Prelude.{◌≡◌, cond, List, [], ◌∷◌, ◌++◌, ℕ, eqb, Option, Some, None, option_and_then}
+use Rattle.std.specs.Option.{option_or}
 use Rattle.answer.specs.Answer.{value}
 use Rattle.record.specs.AsKind.{as_subframe1, as_subframe2, as_subframe3, as_almanac, as_utc}
 use Rattle.record.specs.declared.record.Subframe1.{Subframe1}
@@ -37,33 +37,33 @@ brought f = value (feed f.log f.place f.satellite)
 
 -- the same for a feed of satellite n, none for one of another
 unfoldable pub brought_for : ℕ → Feed → Option Record
-brought_for n f = cond (eqb f.satellite n) (brought f) none
+brought_for n f = cond (eqb f.satellite n) (brought f) None
 
 unfoldable pub subframe1_for : ℕ → Feed → Option Subframe1
-subframe1_for n f = bind (brought_for n f) as_subframe1
+subframe1_for n f = option_and_then as_subframe1 (brought_for n f)
 
 unfoldable pub subframe2_for : ℕ → Feed → Option Subframe2
-subframe2_for n f = bind (brought_for n f) as_subframe2
+subframe2_for n f = option_and_then as_subframe2 (brought_for n f)
 
 unfoldable pub subframe3_for : ℕ → Feed → Option Subframe3
-subframe3_for n f = bind (brought_for n f) as_subframe3
+subframe3_for n f = option_and_then as_subframe3 (brought_for n f)
 
 -- an almanac page with SV ID n, and the UTC page, from whichever satellite
 unfoldable pub with_id : ℕ → AlmanacPage → Option AlmanacPage
-with_id n page = cond (eqb page.sv_id n) (some page) none
+with_id n page = cond (eqb page.sv_id n) (Some page) None
 
 unfoldable pub almanac_for : ℕ → Feed → Option AlmanacPage
-almanac_for n f = bind (bind (brought f) as_almanac) (with_id n)
+almanac_for n f = option_and_then (with_id n) (option_and_then as_almanac (brought f))
 
 unfoldable pub utc_from : Feed → Option UtcPage
-utc_from f = bind (brought f) as_utc
+utc_from f = option_and_then as_utc (brought f)
 
 -- ---- the latest
 
 -- what the latest feed brings of those that bring something
 unfoldable pub latest : {A : Type 0} → (Feed → Option A) → List Feed → Option A
-latest brings [] = none
-latest brings (f ∷ before) = or_else (brings f) (latest brings before)
+latest brings [] = None
+latest brings (f ∷ before) = option_or (brings f) (latest brings before)
 
 -- the feeds for satellite n
 unfoldable pub feeds_for : ℕ → List Feed → List Feed
@@ -83,8 +83,8 @@ pub record IsLatest {A : Type 0} (brings : Feed → Option A) (history : List Fe
   pub feed : Feed
   pub before : List Feed
   pub parts : history ≡ later ++ (feed ∷ before)
-  pub brought_it : brings feed ≡ some a
-  pub none_later : Each (λ g. brings g ≡ none) later
+  pub brought_it : brings feed ≡ Some a
+  pub none_later : Each (λ g. brings g ≡ None) later
 
 -- o is the latest subframes 1, 2 and 3 that were fed for satellite n; they share one issue and show the first health bit clear
 abbrev pub IsSet : ℕ → List Feed → OrbitSet → Type 0

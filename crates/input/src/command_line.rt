@@ -1,19 +1,20 @@
 // The program's arguments, as the words of a line.
-ghost use Rattle.std.specs.Prelude.{◌≤◌, length};
+ghost use Rattle.std.specs.Prelude.{◌≡◌, ◌≤◌, length};
 ghost use Rattle.io.specs.Counts.{IsPrefixLen};
 
 use std::env::{Env, FillError};
+use text::Cursor;
 
-// Puts a blank, where something stands before it, and an argument into the buffer from a place on.
-fn put_argument(buf: &mut [u8], at: usize, word: &[u8]) -> usize
-    requires { at ≤ length buf.old }
-    ensures { result ≤ length buf.new }
+// Puts a blank, where something stands before it, and an argument.
+fn put_argument(out: &mut Cursor<'_>, word: &[u8])
+    requires { out.old.at ≤ length out.old.out.now }
+    ensures same_buffer { out.new.out.ghost_name ≡ out.old.out.ghost_name }
+    ensures inside { out.new.at ≤ length out.new.out.now }
 {
-    if at == 0 {
-        return text::put_text(buf, at, word);
+    if out.at() > 0 {
+        out.put_byte(b' ');
     }
-    let next = text::put_byte(buf, at, b' ');
-    text::put_text(buf, next, word)
+    out.put_text(word);
 }
 
 // Whether the program was given arguments.
@@ -27,7 +28,7 @@ pub fn has_arguments<R: Env>(env: &R) -> bool {
 pub fn arguments<R: Env>(env: &R, buf: &mut [u8]) -> usize
     ensures { IsPrefixLen result buf.new }
 {
-    let mut at: usize = 0;
+    let mut line = Cursor::new(buf, 0);
     for i in 1..usize::MAX {
         let mut word = io::buffer();
         let n = match env.arg(i, &mut word) {
@@ -35,7 +36,7 @@ pub fn arguments<R: Env>(env: &R, buf: &mut [u8]) -> usize
             Err(FillError::TooLong) => 0,
             Err(FillError::NotPresent) => break,
         };
-        at = put_argument(buf, at, &word[..n]);
+        put_argument(&mut line, &word[..n]);
     }
-    at
+    line.at()
 }

@@ -6,5 +6,5 @@ mod files;
 mod line;
 
 pub use command_line::{arguments, has_arguments};
-pub use files::{Input, log_buffer, open_file, read_file, read_log};
+pub use files::{ReadError, log_buffer, open_file, read_file, read_log};
 pub use line::{Line, LineEnd, read_line};

@@ -1,4 +1,4 @@
-// Which kind a subframe is, and which kind a record is of.
+// Which kind a subframe is, by the three numbers of which the definitions speak, and which kind a record is of.
 ghost use Rattle.std.specs.Prelude.{◌≡◌, true};
 ghost use Rattle.record.specs.Kind.{is_page, is_almanac, is_utc, is_other, is_of_kind};
 ghost use Rattle.record.specs.Record.{kind_of};
@@ -7,29 +7,19 @@ ghost use Rattle.record.specs.Writable.{of_its_kind};
 use record::{Kind, Record};
 
 // Whether a subframe with this number holds a page.
+#[tactic(auto, unfolding(record::specs::Kind::is_page))]
 fn is_page(subframe: u32) -> bool
     ensures { result ≡ is_page subframe }
 {
-    if subframe == 4 {
-        return true;
-    }
-    subframe == 5
+    matches!(subframe, 4 | 5)
 }
 
 // Whether a page with this data ID field and ID is an almanac page.
+#[tactic(auto, unfolding(record::specs::Kind::is_almanac))]
 fn is_almanac(subframe: u32, data_id: u32, id: u32) -> bool
     ensures { result ≡ is_almanac subframe data_id id }
 {
-    if !is_page(subframe) {
-        return false;
-    }
-    if data_id != 1 {
-        return false;
-    }
-    if id < 1 {
-        return false;
-    }
-    id <= 32
+    is_page(subframe) && data_id == 1 && matches!(id, 1..=32)
 }
 
 // Whether it is the UTC page.
@@ -37,49 +27,31 @@ fn is_almanac(subframe: u32, data_id: u32, id: u32) -> bool
 fn is_utc(subframe: u32, data_id: u32, id: u32) -> bool
     ensures { result ≡ is_utc subframe data_id id }
 {
-    if subframe != 4 {
-        return false;
-    }
-    if id != 56 {
-        return false;
-    }
-    data_id == 1
+    subframe == 4 && data_id == 1 && id == 56
 }
 
 // Whether a page with this data ID field and ID is neither an almanac page nor the UTC page.
+#[tactic(auto, unfolding(record::specs::Kind::is_other))]
 fn is_other(subframe: u32, data_id: u32, id: u32) -> bool
     ensures { result ≡ is_other subframe data_id id }
 {
-    if !is_page(subframe) {
-        return false;
-    }
-    if is_almanac(subframe, data_id, id) {
-        return false;
-    }
-    !is_utc(subframe, data_id, id)
+    is_page(subframe) && !is_almanac(subframe, data_id, id) && !is_utc(subframe, data_id, id)
 }
 
 // The kind that a subframe is of by its number, its data ID field and its ID; it is of exactly one. Only subframes 4 and 5 have the two; numbers
 // outside 1 to 5 are the block check's question.
+#[tactic(auto, unfolding(record::specs::Kind::is_of_kind))]
 pub fn kind_for(subframe: u32, data_id: u32, id: u32) -> Kind
     ensures { is_of_kind result subframe data_id id ≡ true }
 {
-    if subframe == 1 {
-        return Kind::Subframe1;
+    match subframe {
+        1 => Kind::Subframe1,
+        2 => Kind::Subframe2,
+        3 => Kind::Subframe3,
+        _ if is_almanac(subframe, data_id, id) => Kind::Almanac,
+        _ if is_utc(subframe, data_id, id) => Kind::Utc,
+        _ => Kind::Other,
     }
-    if subframe == 2 {
-        return Kind::Subframe2;
-    }
-    if subframe == 3 {
-        return Kind::Subframe3;
-    }
-    if is_almanac(subframe, data_id, id) {
-        return Kind::Almanac;
-    }
-    if is_utc(subframe, data_id, id) {
-        return Kind::Utc;
-    }
-    Kind::Other
 }
 
 pub fn kind_of(r: Record) -> Kind
@@ -96,6 +68,7 @@ pub fn kind_of(r: Record) -> Kind
 }
 
 // Whether the subframe number and the IDs are those of the record's kind.
+#[tactic(auto, unfolding(record::specs::Writable::of_its_kind))]
 pub fn of_its_kind(r: Record) -> bool
     ensures { result ≡ of_its_kind r }
 {

@@ -1,5 +1,5 @@
 -- Definitions. The words and lines of a text, equal texts, and the line of a table that begins with a name.
-use Rattle.std.specs.Prelude.{Bool, true, false, cond, ◌&&◌, List, [], ◌∷◌, ℕ, zero, suc, ◌+◌, leb, ltb, eqb, length, drop}
+use Rattle.std.specs.Prelude.{Bool, true, false, cond, ◌&&◌, List, [], ◌∷◌, ℕ, zero, suc, ◌+◌, leb, ltb, eqb, length, drop, Option, Some, None}
 use Rattle.finite.specs.First.{first_from}
 
 -- the bytes of a text before the first one that the test refuses, and the rest of the text
@@ -34,11 +34,19 @@ same [] (y ∷ b) = false
 same (x ∷ a) [] = false
 same (x ∷ a) (y ∷ b) = eqb x y && same a b
 
+-- k, if it is below a count
+abbrev pub some_below : ℕ → ℕ → Option ℕ
+some_below count k = cond (ltb k count) (Some k) None
+
 -- the first word of line number i of a table
 unfoldable pub name_at : List ℕ → ℕ → List ℕ
 name_at table i = word (line table i) 0
 
--- the least i below count for which the first word of line first + i is the name; count where there is none. A number first + i may be any: past
--- the last line the word is empty
+-- the least i below count for which the first word of line first + i is the name, where there is one. A number first + i may be any: past the last
+-- line the word is empty
 unfoldable pub named : List ℕ → List ℕ → ℕ → ℕ → ℕ
 named table name first count = first_from (λ i. same (name_at table (first + i)) name) 0 count
+
+-- that number, none where there is none
+unfoldable pub named_line : List ℕ → List ℕ → ℕ → ℕ → Option ℕ
+named_line table name first count = some_below count (named table name first count)

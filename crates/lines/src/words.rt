@@ -5,18 +5,17 @@ ghost use Rattle.lines.specs.internal.Side.{after};
 
 // The first place at or after `from` of a byte that is not above the limit, or, where `above` is false, of one that is; the text's end where
 // there is none.
+#[tactic(auto, using(crate::proofs::laws::Words::after_steps))]
 fn skip(text: &[u8], limit: u8, above: bool, from: usize) -> usize
     requires { from ≤ length text.now }
     ensures { (result ≡ after text.now limit above from) × (from ≤ result) × (result ≤ length text.now) }
 {
-    let mut at = from;
-    while at < text.len() {
+    for at in from..text.len() {
         if (limit < text[at]) != above {
             return at;
         }
-        at += 1;
     }
-    at
+    text.len()
 }
 
 // Run number i of bytes above the limit, or an empty part past the last run. A text has no more runs than bytes, so a large i is answered at once.
@@ -24,14 +23,12 @@ fn run<'a>(text: &'a [u8], limit: u8, i: usize) -> &'a [u8]
     ensures { result.now ≡ Words.run text.now limit i }
 {
     if text.len() <= i {
-        return &text[0..0];
+        return &text[..0];
     }
-    let mut from: usize = 0;
-    let mut left = i;
-    while 0 < left {
+    let mut from = 0;
+    for passed in 0..i {
         let before = skip(text, limit, false, from);
         from = skip(text, limit, true, before);
-        left -= 1;
     }
     let start = skip(text, limit, false, from);
     let end = skip(text, limit, true, start);

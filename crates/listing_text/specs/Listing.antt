@@ -1,16 +1,15 @@
 -- Definitions. The listing of a log (document 01, 'Listing program').
-use Rattle.std.specs.Prelude.{◌≡◌, cond, List, [], ◌∷◌, ◌++◌, ℕ, zero, suc, ◌+◌, ◌-◌, ◌≤◌, ltb, length, take, drop}
+use Rattle.std.specs.Prelude.{◌≡◌, cond, Result, Ok, Err, List, [], ◌∷◌, ◌++◌, ℕ, zero, suc, ◌+◌, ◌-◌, ◌≤◌, ltb, length, take, drop}
 use Prim.Native.Char.{code}
 use Rattle.bits.specs.Bits.{bits_at}
 use Rattle.text.specs.Text.{ascii, decimal, tabbed}
-use Rattle.answer.specs.Answer.{Answer, accepted, refuse_if, from_value, refusal_answer}
+use Rattle.answer.specs.Answer.{Answer, accepted, refuse_if, from_value}
+use Rattle.answer.specs.declared.refusal.Refusal.{Refusal}
 use Rattle.block.specs.Block.{Block, count, subframe_number}
 use Rattle.block_check.specs.Check.{accepted_at}
 use Rattle.block.specs.Polarity.{polarity_of}
 use Rattle.block.specs.declared.polarity.Polarity.{Polarity}
 use Rattle.block.specs.declared.polarity.Polarity.TheVariants.{Upright, Inverted}
-use Rattle.listing_text.specs.declared.listing.Listed.{Listed}
-use Rattle.listing_text.specs.declared.listing.Listed.TheVariants.{Length, Refused}
 
 -- The accepted places on the walk from p on, in at most n steps: after an accepted block at p it goes to p + 300, else to p + 1, until fewer than
 -- 302 bytes are left.
@@ -60,12 +59,7 @@ list s =
 unfoldable pub buffer_after : List ℕ → List ℕ → List ℕ
 buffer_after s buffer = from_value buffer (λ n. listing s ++ drop n buffer) (list s)
 
--- what the code's answer says
-unfoldable pub listed_answer : Listed → Answer ℕ
-listed_answer (Length n) = accepted n
-listed_answer (Refused r) = refusal_answer r
-
 -- the bytes of a listing that is given are there in the buffer; both parts are stated as whoever lends them wants them
-abbrev pub Lendable : Listed → List ℕ → Type 0
-Lendable (Length n) buffer = (n ≤ length buffer) × (n ≡ length (take n buffer))
-Lendable (Refused r) buffer = Unit {0}
+abbrev pub Lendable : Result ℕ Refusal → List ℕ → Type 0
+Lendable (Ok n) buffer = (n ≤ length buffer) × (n ≡ length (take n buffer))
+Lendable (Err r) buffer = Unit {0}

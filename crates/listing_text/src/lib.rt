@@ -3,4 +3,4 @@
 
 mod listing;
 
-pub use listing::{Listed, list};
+pub use listing::{letter_of, list};

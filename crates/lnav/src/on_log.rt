@@ -1,89 +1,72 @@
 // The commands on a log: what is asked of it, and feeds, each with a line of answer.
-use crate::help::{CHECK, FEED, FEED_ALL, FIND, LIST, READ};
-use crate::logs::put_log;
+ghost use Rattle.std.specs.Prelude.{IfOk};
+ghost use Rattle.io.specs.Counts.{IsPrefixLen};
+
+use crate::command::OnLog;
+use crate::problem::Problem;
 use crate::request::Request;
-use crate::written::Block;
-use collector::Collector;
+use crate::session::Session;
 use console::print_refusal;
-use listing_text::Listed;
-use search::Found;
 use std::rt::Files;
+use text::Cursor;
 
-fn print_refusal_line(number: u8) {
-    let mut line = io::buffer();
-    let n = text::put_refusal(&mut line, 0, number);
-    console::print(&line[..n]);
-}
-
-// Document 01's listing, or the line of its refusal.
-fn list(log: &[u8]) {
-    let mut text = io::buffer();
-    match listing_text::list(log, &mut text) {
-        Listed::Length(n) => console::print(&text[..n]),
-        Listed::Refused(r) => print_refusal_line(r.number),
+impl<'a, R: Print + Files> Session<'a, R> {
+    // Puts the log that word 1 of a line names into the buffer: a file, or the block that was written last.
+    fn put_log(&self, line: &[u8], buf: &mut [u8]) -> Result<usize, Problem>
+        ensures { IfOk result (λ n. IsPrefixLen n buf.new) }
+    {
+        let name = lines::word(line, 1);
+        if !lines::same(name, b"written") {
+            return input::read_file(self.rt, name, buf).map_err(|_| Problem::NotRead);
+        }
+        let bits = self.written.ok_or(Problem::NotWritten)?;
+        let mut log = Cursor::new(buf, 0);
+        log.put_text(&bits);
+        Ok(log.at())
     }
-}
 
-fn answer_on(command: usize, log: &[u8], place: usize) {
-    match command {
-        CHECK => commands::check(log, place),
-        FIND => commands::find(log, place),
-        LIST => list(log),
-        READ => commands::read(log, place),
-        _ => commands::words(log, place),
+    // Feeds the block at a place, and prints the answer.
+    fn feed(&mut self, log: &[u8], p: usize, satellite: usize) {
+        let answer = self.collector.feed(log, p, satellite);
+        commands::print_fed(self.rt, p, satellite, answer);
     }
-}
 
-// Feeds the block at place p, prints the answer, and gives the collector after it.
-fn feed(c: Collector, log: &[u8], p: usize, satellite: usize) -> Collector {
-    let fed = c.feed(log, p, satellite);
-    let answer = fed.answer;
-    commands::print_fed(p, satellite, answer);
-    fed.collector
-}
-
-// Feeds each block on the walk: finds the next one, feeds it, and goes on 300 places after its place. The last line is the refusal of the search
-// that ends the walk.
-fn feed_all(first: Collector, log: &[u8], satellite: usize) -> Collector {
-    let mut c = first;
-    let mut p: usize = 0;
-    loop {
-        match search::find(log, p) {
-            Found::At(q) => {
-                c = feed(c, log, q, satellite);
-                p = q + block::BLOCK_STEP;
-            }
-            Found::Refused(r) => {
-                print_refusal(r);
-                return c;
+    // Feeds each block on the walk: finds the next one, feeds it, and goes on 300 places after its place. The last line is the refusal of the
+    // search that ends the walk, so that it is no loop over the blocks alone.
+    fn feed_all(&mut self, log: &[u8], satellite: usize) {
+        let mut p = 0;
+        loop {
+            match search::find(log, p) {
+                Ok(q) => {
+                    self.feed(log, q, satellite);
+                    p = q + block::BLOCK_STEP;
+                }
+                Err(refusal) => {
+                    print_refusal(self.rt, refusal);
+                    return;
+                }
             }
         }
     }
-}
 
-// Does a command on the log that the line names, and gives the collector after it.
-pub(crate) fn on_log<R: Files>(
-    rt: &R,
-    c: Collector,
-    request: Request,
-    line: &[u8],
-    block: Block,
-) -> Collector {
-    let mut log = input::log_buffer();
-    let input = put_log(rt, line, block, &mut log);
-    if input.failed {
-        return c;
-    }
-    let length = input.length;
-    let log = &log[..length];
-    let first = request.first as usize;
-    let command = request.command;
-    match command {
-        FEED => feed(c, log, first, request.second as usize),
-        FEED_ALL => feed_all(c, log, first),
-        _ => {
-            answer_on(command, log, first);
-            c
+    // Does a command on the log that the line names.
+    pub(crate) fn on_log(&mut self, command: OnLog, request: Request<'_>) -> Result<(), Problem> {
+        let mut log = input::log_buffer();
+        let length = self.put_log(request.line, &mut log)?;
+        let log = &log[..length];
+        let first = request.first as usize;
+        let rt = self.rt;
+        match command {
+            OnLog::Check => commands::check(rt, log, first),
+            OnLog::Find => commands::find(rt, log, first),
+            OnLog::List => {
+                let _ = console::print_listing(rt, log);
+            }
+            OnLog::Read => commands::read(rt, log, first),
+            OnLog::Words => commands::words(rt, log, first),
+            OnLog::Feed => self.feed(log, first, request.second as usize),
+            OnLog::FeedAll => self.feed_all(log, first),
         }
+        Ok(())
     }
 }

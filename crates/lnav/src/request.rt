@@ -1,80 +1,76 @@
 // What a line asks for: its command and the numbers of it.
-use crate::given::record_at;
-use crate::help::{NOTHING, command_in, first_number, number_count};
-use crate::messages::{NO_NUMBER, TOO_MANY_WORDS, complain};
-use digits::Number;
+use crate::command::Command;
+use crate::given::kind_at;
+use crate::problem::Problem;
 
-// A command, the word at which a record stands, or 0 where the line has none, and up to two numbers.
+// The line, its command, the word at which a record stands, if any, and up to two numbers, of which no command
+// reads more than it takes.
 #[derive(Clone, Copy)]
-pub(crate) struct Request {
-    pub(crate) command: usize,
-    pub(crate) record: usize,
+pub(crate) struct Request<'a> {
+    pub(crate) line: &'a [u8],
+    pub(crate) command: Command,
+    pub(crate) record: Option<usize>,
     pub(crate) first: u64,
     pub(crate) second: u64,
 }
 
-fn nothing() -> Request {
-    Request {
-        command: NOTHING,
-        record: 0,
-        first: 0,
-        second: 0,
+// The word at which a command's record begins with its kind.
+fn record_at(command: Command, line: &[u8]) -> Option<usize> {
+    match command {
+        Command::Write => Some(1),
+        Command::Ask(question) => {
+            let i = question.record_word()?;
+            kind_at(line, i).map(|_| i)
+        }
+        Command::OnLog(_)
+        | Command::Word
+        | Command::Invert
+        | Command::Flip
+        | Command::Rank
+        | Command::Forget
+        | Command::Run
+        | Command::Help => None,
     }
 }
 
-// The number that word i writes, or 0 where none is wanted.
-fn number(line: &[u8], i: usize, is_wanted: bool) -> Number {
-    if !is_wanted {
-        return Number::Value(0);
+// The number that word i writes.
+fn number_at(line: &[u8], i: usize) -> Result<u64, Problem> {
+    digits::natural(lines::word(line, i)).ok_or(Problem::NoNumber)
+}
+
+// Refuses a line that has a word i.
+pub(crate) fn ends(line: &[u8], i: usize) -> Result<(), Problem> {
+    if lines::word(line, i).is_empty() {
+        Ok(())
+    } else {
+        Err(Problem::TooManyWords)
     }
-    digits::natural(lines::word(line, i))
 }
 
-fn no_number(line: &[u8]) -> Request {
-    complain(NO_NUMBER, line);
-    nothing()
-}
-
-// Whether a line has no word i. Where it has one the message says so.
-pub(crate) fn ends(line: &[u8], i: usize) -> bool {
-    if lines::word(line, i).len() == 0 {
-        return true;
-    }
-    complain(TOO_MANY_WORDS, line);
-    false
-}
-
-// The numbers of a command, from word i on. No word is left after them, but where a record stands.
-fn with_numbers(command: usize, record: usize, line: &[u8], i: usize, count: usize) -> Request {
-    let Number::Value(first) = number(line, i, 0 < count) else {
-        return no_number(line);
+// What a line asks for. No word is left after its numbers, but where a record stands. A record at word 1 stands in place of the numbers.
+pub(crate) fn request_in(line: &[u8]) -> Result<Request<'_>, Problem> {
+    let command = Command::named(lines::word(line, 0))?;
+    let record = record_at(command, line);
+    let count = if record == Some(1) {
+        0
+    } else {
+        command.number_count()
     };
-    let Number::Value(second) = number(line, std::num::wrapping_add_usize(i, 1), 1 < count) else {
-        return no_number(line);
+    let i = command.first_number();
+    let first = if 0 < count { number_at(line, i)? } else { 0 };
+    let second = if 1 < count {
+        number_at(line, i.wrapping_add(1))?
+    } else {
+        0
     };
-    if record == 0 && !ends(line, std::num::wrapping_add_usize(i, count)) {
-        return nothing();
+    if record.is_none() {
+        ends(line, i.wrapping_add(count))?;
     }
-    Request {
+    Ok(Request {
+        line,
         command,
         record,
         first,
         second,
-    }
-}
-
-// What a line asks for. Nothing, where a word is wrong: the message says which.
-pub(crate) fn request_in(line: &[u8]) -> Request {
-    let command = command_in(line);
-    if command == NOTHING {
-        return nothing();
-    }
-    let record = record_at(command, line);
-    with_numbers(
-        command,
-        record,
-        line,
-        first_number(command),
-        number_count(command, record),
-    )
+    })
 }

@@ -1,87 +1,24 @@
 // The block that was written last.
 use crate::given::given_at;
-use crate::help::{FLIP, INVERT, WRITE};
-use crate::messages::{NO_BIT, NOT_CHANGED, NOT_WRITTEN, complain};
-use crate::request::{Request, ends};
-use answer::Checked;
+use crate::problem::Problem;
+use crate::request::ends;
+use crate::session::Session;
 use block::Polarity;
-use console::{end_line, print_bits, print_refusal};
-use from_values::GivenRecord;
-use record::Record;
+use console::print_refusal;
+use std::fmt;
+use std::fmt::{Display, Formatter};
 
-// A block, where one is written.
+// The bits of a block as digits.
 #[derive(Clone, Copy)]
-pub(crate) struct Block {
-    pub(crate) bits: [u8; 302],
-    pub(crate) is_written: bool,
-}
+struct Digits([u8; 302]);
 
-pub(crate) fn nothing_written() -> Block {
-    Block {
-        bits: [0; 302],
-        is_written: false,
-    }
-}
-
-// Prints the bits of a block as a line, and gives the block.
-fn shown(bits: [u8; 302]) -> Block {
-    print_bits(&bits);
-    end_line();
-    Block {
-        bits,
-        is_written: true,
-    }
-}
-
-// Writes a record, and gives its block, or the old one where the writer refuses.
-fn write_record(r: Record, is_inverted: bool, old: Block) -> Block {
-    let polarity = if is_inverted {
-        Polarity::Inverted
-    } else {
-        Polarity::Upright
-    };
-    let mut bits = [0u8; 302];
-    match writer::write(r, polarity, &mut bits) {
-        Checked::Accepted => shown(bits),
-        Checked::Refused(refusal) => {
-            print_refusal(refusal);
-            old
+impl Display for Digits {
+    fn fmt<W: fmt::Write>(&self, f: &mut Formatter<W>) -> fmt::Result {
+        for bit in &self.0 {
+            write!(f, "{bit}")?;
         }
+        Ok(())
     }
-}
-
-// Writes the record of a kind that has these values.
-fn write_values(kind: usize, values: [i64; 25], is_inverted: bool, old: Block) -> Block {
-    if 6 < kind {
-        return old;
-    }
-    match from_values::record_with(kind as u8, &values) {
-        GivenRecord::Given(r) => write_record(r, is_inverted, old),
-        GivenRecord::Refused(refusal) => {
-            print_refusal(refusal);
-            old
-        }
-    }
-}
-
-// Writes the record of a line, where no word is left after it.
-fn write(line: &[u8], old: Block) -> Block {
-    let given = given_at(line, 1);
-    if !given.are_right {
-        return old;
-    }
-    let next = given.next;
-    let is_inverted = lines::same(lines::word(line, next), b"inverted");
-    let after = if is_inverted {
-        std::num::wrapping_add_usize(next, 1)
-    } else {
-        next
-    };
-    if !ends(line, after) {
-        return old;
-    }
-    let values = given.values;
-    write_values(given.kind, values, is_inverted, old)
 }
 
 // The other bit. A byte above 1 is no bit, and stays.
@@ -93,59 +30,52 @@ fn other_bit(bit: u8) -> u8 {
     }
 }
 
-fn inverse(bits: [u8; 302]) -> [u8; 302] {
-    let mut other = bits;
-    let mut i: usize = 0;
-    while i < 302 {
-        other[i] = other_bit(bits[i]);
-        i += 1;
+impl<'a, R: Print> Session<'a, R> {
+    // Holds a block, and prints its bits as a line.
+    fn hold(&mut self, bits: [u8; 302]) {
+        self.written = Some(bits);
+        let _ = println!(self.rt; "{}", Digits(bits));
     }
-    other
-}
 
-// Whether word 1 of a line is `written` and there is such a block.
-fn can_change(block: Block, line: &[u8]) -> bool {
-    if !lines::same(lines::word(line, 1), b"written") {
-        complain(NOT_CHANGED, line);
-        return false;
+    // Writes the record of a line, where no word is left after it. Where it is refused the block before stays.
+    pub(crate) fn write(&mut self, line: &[u8]) -> Result<(), Problem> {
+        let given = given_at(line, 1)?;
+        let is_inverted = lines::same(lines::word(line, given.next), b"inverted");
+        ends(line, given.next.wrapping_add(usize::from(is_inverted)))?;
+        let mut bits = [0u8; 302];
+        let answer = from_values::record_with(given.kind.number(), &given.values).and_then(
+            |r| writer::write(r, Polarity::from(is_inverted), &mut bits),
+        );
+        match answer {
+            Ok(()) => self.hold(bits),
+            Err(refusal) => {
+                print_refusal(self.rt, refusal);
+            }
+        }
+        Ok(())
     }
-    if !block.is_written {
-        complain(NOT_WRITTEN, line);
-    }
-    block.is_written
-}
 
-// The block with 0 and 1 swapped.
-fn invert(line: &[u8], block: Block) -> Block {
-    if !can_change(block, line) {
-        return block;
+    // The block that a line changes: word 1 is `written`, and there is one.
+    fn changed(&self, line: &[u8]) -> Result<[u8; 302], Problem> {
+        if !lines::same(lines::word(line, 1), b"written") {
+            return Err(Problem::NotChanged);
+        }
+        self.written.ok_or(Problem::NotWritten)
     }
-    let bits = block.bits;
-    shown(inverse(bits))
-}
 
-// The block with the bit flipped that has this index.
-fn flip(line: &[u8], block: Block, index: u64) -> Block {
-    if !can_change(block, line) {
-        return block;
+    // Swaps 0 and 1 in the block.
+    pub(crate) fn invert(&mut self, line: &[u8]) -> Result<(), Problem> {
+        let bits = self.changed(line)?;
+        self.hold(bits.map(other_bit));
+        Ok(())
     }
-    let i = index as usize;
-    if 301 < i {
-        complain(NO_BIT, line);
-        return block;
-    }
-    let mut bits = block.bits;
-    bits[i] = other_bit(bits[i]);
-    shown(bits)
-}
 
-// The block after a command.
-pub(crate) fn written_after(block: Block, request: Request, line: &[u8]) -> Block {
-    let command = request.command;
-    match command {
-        WRITE => write(line, block),
-        INVERT => invert(line, block),
-        FLIP => flip(line, block, request.first),
-        _ => block,
+    // Flips the bit of the block with this index.
+    pub(crate) fn flip(&mut self, line: &[u8], index: u64) -> Result<(), Problem> {
+        let mut bits = self.changed(line)?;
+        let bit = bits.get_mut(index as usize).ok_or(Problem::NoBit)?;
+        *bit = other_bit(*bit);
+        self.hold(bits);
+        Ok(())
     }
 }

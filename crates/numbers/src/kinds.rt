@@ -1,5 +1,5 @@
 // The numbers that stand in a record's fields, in the order of the message. A signed value that is outside its field has a number outside its
-// width.
+// width. A function for each kind, since they differ in their fields.
 ghost use Rattle.std.specs.Prelude.{◌≡◌};
 ghost use Rattle.layout.specs.Table as Table;
 ghost use Rattle.record.specs.Fields.{subframe1_fields, subframe2_fields, subframe3_fields, almanac_fields, utc_fields, other_fields, fields_of};
@@ -141,6 +141,7 @@ fn utc_numbers(r: UtcPage) -> [u32; MOST_FIELDS]
     ]
 }
 
+#[tactic(auto, unfolding(layout::specs::Table::numbers))]
 fn other_numbers(r: OtherPage) -> [u32; MOST_FIELDS]
     ensures { result ≡ Table.numbers 19 other_fields (other_values r) }
 {
@@ -168,6 +169,7 @@ fn other_numbers(r: OtherPage) -> [u32; MOST_FIELDS]
 }
 
 // The numbers of a record's fields of words 3 to 10.
+#[tactic(auto)]
 pub fn field_numbers(r: Record) -> [u32; MOST_FIELDS]
     ensures { result ≡ Table.numbers 19 (fields_of (kind_of r)) (field_values r) }
 {

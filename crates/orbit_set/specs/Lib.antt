@@ -1,4 +1,3 @@
 -- The files of this folder: definitions; laws about them.
-pub mod Held
 pub mod Set
 pub mod laws

@@ -1,19 +1,11 @@
 -- Definitions. The set of the held subframes (document 01, 'Finding and holding', and numbers 17 to 19 of its table).
-use Rattle.std.specs.Prelude.{◌≡◌, Bool, not, ◌&&◌, ℕ, eqb}
-use Rattle.std.proofs.Math.Option.{Option, some}
+use Rattle.std.specs.Prelude.{◌≡◌, Bool, not, ◌&&◌, ℕ, eqb, Option, Some}
 use Rattle.bits.specs.Bits.{unpack}
-use Rattle.answer.specs.Answer.{Answer, accepted, refuse_if, refusal_answer, when_held}
+use Rattle.answer.specs.Answer.{Answer, accepted, refuse_if, when_held}
 use Rattle.record.specs.declared.record.Subframe1.{Subframe1}
 use Rattle.record.specs.declared.record.Subframe2.{Subframe2}
 use Rattle.record.specs.declared.record.Subframe3.{Subframe3}
 use Rattle.orbit_set.specs.declared.set.OrbitSet.{OrbitSet}
-use Rattle.orbit_set.specs.declared.set.GivenSet.{GivenSet}
-use Rattle.orbit_set.specs.declared.set.GivenSet.TheVariants as GS
-
--- what the code's answer says
-unfoldable pub given_set_answer : GivenSet → Answer OrbitSet
-given_set_answer (GS.Given o) = accepted o
-given_set_answer (GS.Refused r) = refusal_answer r
 
 -- ---- the lines of the table
 
@@ -44,9 +36,9 @@ set_in held1 held2 held3 =
 
 -- o is the three records that are held; they share one issue and show the first health bit clear
 pub record AreSet (held1 : Option Subframe1) (held2 : Option Subframe2) (held3 : Option Subframe3) (o : OrbitSet) : Type 0 where
-  pub held_1 : held1 ≡ some o.subframe1
-  pub held_2 : held2 ≡ some o.subframe2
-  pub held_3 : held3 ≡ some o.subframe3
+  pub held_1 : held1 ≡ Some o.subframe1
+  pub held_2 : held2 ≡ Some o.subframe2
+  pub held_3 : held3 ≡ Some o.subframe3
   pub issue_2 : o.subframe1.iodc_low ≡ o.subframe2.iode
   pub issue_3 : o.subframe2.iode ≡ o.subframe3.iode
   pub health_clear : first_health_bit o.subframe1 ≡ 0

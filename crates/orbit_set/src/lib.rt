@@ -4,5 +4,5 @@
 mod held;
 mod set;
 
-pub use held::{HeldSubframe1, HeldSubframe2, HeldSubframe3, HeldSubframes};
-pub use set::{GivenSet, OrbitSet, set_in};
+pub use held::HeldSubframes;
+pub use set::{OrbitSet, set_in};

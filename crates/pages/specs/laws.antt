@@ -1,4 +1,3 @@
 -- Laws about the definitions of this crate.
 pub mod After
 pub mod Ways
-pub mod Answers

@@ -8,77 +8,44 @@ ghost use Rattle.pages.specs.After.{pages_after};
 use record::{AlmanacPage, Record, UtcPage};
 use satellite_number::is_satellite;
 
-// The latest page of a kind, or nothing where none was fed.
-#[derive(Clone, Copy)]
-pub enum HeldAlmanac {
-    Nothing,
-    Latest(AlmanacPage),
-}
-
-#[derive(Clone, Copy)]
-pub enum HeldUtc {
-    Nothing,
-    Latest(UtcPage),
-}
-
-// What is held for one SV ID.
-#[derive(Clone, Copy)]
-pub struct AlmanacEntry {
-    pub(crate) page: HeldAlmanac,
-}
-
-// SV ID n stands at index n - 1.
+// The latest page of each kind, or none where none was fed. The almanac page for SV ID n stands at index n - 1.
 #[derive(Clone, Copy)]
 pub struct Pages {
-    pub(crate) almanac: [AlmanacEntry; 32],
-    pub(crate) utc: HeldUtc,
+    pub(crate) almanac: [Option<AlmanacPage>; 32],
+    pub(crate) utc: Option<UtcPage>,
 }
 
 impl Pages {
     // Nothing is held.
+    #[tactic(auto, unfolding(crate::specs::Held::empty_pages))]
     pub fn empty() -> Self
         ensures { result ≡ empty_pages }
     {
-        let entry = AlmanacEntry {
-            page: HeldAlmanac::Nothing,
-        };
         Pages {
-            almanac: [entry; 32],
-            utc: HeldUtc::Nothing,
+            almanac: [None; 32],
+            utc: None,
         }
     }
-}
 
-// What is held after an almanac page.
-fn with_almanac(held: Pages, page: AlmanacPage) -> Pages
-    ensures { result ≡ pages_after held (R.Almanac page) }
-{
-    let id = page.sv_id as usize;
-    if !is_satellite(id) {
-        return held;
-    }
-    let i = id - 1;
-    let mut almanac = held.almanac;
-    let utc = held.utc;
-    almanac[i] = AlmanacEntry {
-        page: HeldAlmanac::Latest(page),
-    };
-    Pages { almanac, utc }
-}
-
-// What is held after a record. An almanac page stands under its SV ID, whoever sent it, and other pages are not kept.
-pub fn after(held: Pages, r: Record) -> Pages
-    ensures { result ≡ pages_after held r }
-{
-    match r {
-        Record::Almanac(page) => with_almanac(held, page),
-        Record::Utc(page) => {
-            let almanac = held.almanac;
-            Pages {
-                almanac,
-                utc: HeldUtc::Latest(page),
-            }
+    // Holds the page that a record is: an almanac page under its SV ID, whoever sent it. Other pages are not kept.
+    #[tactic(auto, unfolding(crate::specs::After::pages_after, crate::specs::After::almanac_after, crate::specs::After::utc_after, record::specs::AsKind::as_almanac, record::specs::AsKind::as_utc, record::specs::AsKind::by_kind))]
+    pub fn hold(&mut self, r: Record)
+        ensures { self.new ≡ pages_after self.old r }
+    {
+        match r {
+            Record::Almanac(page) => self.hold_almanac(page),
+            Record::Utc(page) => self.utc = Some(page),
+            _ => {}
         }
-        _ => held,
+    }
+
+    #[tactic(auto, using(satellite_number::specs::laws::Numbers::bounds), unfolding(crate::specs::After::pages_after, crate::specs::After::almanac_after, crate::specs::After::utc_after, crate::specs::After::stored, record::specs::AsKind::as_almanac, record::specs::AsKind::as_utc, record::specs::AsKind::by_kind))]
+    fn hold_almanac(&mut self, page: AlmanacPage)
+        ensures { self.new ≡ pages_after self.old (R.Almanac page) }
+    {
+        let id = page.sv_id as usize;
+        if is_satellite(id) {
+            self.almanac[id - 1] = Some(page);
+        }
     }
 }

@@ -4,5 +4,4 @@
 mod held;
 mod questions;
 
-pub use held::{Pages, after};
-pub use questions::{GivenAlmanac, GivenUtc};
+pub use held::Pages;

@@ -1,52 +1,30 @@
 // The questions for the held pages: the almanac page for an SV ID, and the UTC page.
 ghost use Rattle.std.specs.Prelude.{◌≡◌};
+ghost use Rattle.answer.specs.Answer.{answer_of};
 ghost use Rattle.pages.specs.Questions as Questions;
-ghost use Rattle.pages.specs.Questions.{given_almanac_answer, given_utc_answer};
 
-use crate::held::{HeldAlmanac, HeldUtc, Pages};
-use answer::{Refusal, refusal_by};
+use crate::held::Pages;
+use answer::Refusal;
 use record::{AlmanacPage, UtcPage};
 use satellite_number::is_satellite;
 
-// The answer to the question for an almanac page.
-#[derive(Clone, Copy)]
-pub enum GivenAlmanac {
-    Given(AlmanacPage),
-    Refused(Refusal),
-}
-
-// The answer to the question for the UTC page.
-#[derive(Clone, Copy)]
-pub enum GivenUtc {
-    Given(UtcPage),
-    Refused(Refusal),
-}
-
 impl Pages {
     // The almanac page for an SV ID.
-    pub fn almanac(self, id: usize) -> GivenAlmanac
-        ensures { given_almanac_answer result ≡ Questions.almanac self id }
+    #[tactic(auto, using(satellite_number::specs::laws::Numbers::bounds), unfolding(crate::specs::Questions::almanac, crate::specs::Held::held_almanac, answer::specs::Answer::refuse_if, answer::specs::Answer::when_held))]
+    pub fn almanac(&self, id: usize) -> Result<AlmanacPage, Refusal>
+        ensures { answer_of result ≡ Questions.almanac self.now id }
     {
         if !is_satellite(id) {
-            return GivenAlmanac::Refused(refusal_by(13, id));
+            return Err(Refusal::Satellite(id));
         }
-        let i = id - 1;
-        let entry = self.almanac[i];
-        let page = entry.page;
-        match page {
-            HeldAlmanac::Latest(latest) => GivenAlmanac::Given(latest),
-            HeldAlmanac::Nothing => GivenAlmanac::Refused(refusal_by(20, 0)),
-        }
+        self.almanac[id - 1].ok_or(Refusal::PageNotHeld)
     }
 
     // The UTC page.
-    pub fn utc_page(self) -> GivenUtc
-        ensures { given_utc_answer result ≡ Questions.utc_page self }
+    #[tactic(auto, unfolding(crate::specs::Questions::utc_page, crate::specs::Held::held_utc, answer::specs::Answer::when_held))]
+    pub fn utc_page(&self) -> Result<UtcPage, Refusal>
+        ensures { answer_of result ≡ Questions.utc_page self.now }
     {
-        let utc = self.utc;
-        match utc {
-            HeldUtc::Latest(latest) => GivenUtc::Given(latest),
-            HeldUtc::Nothing => GivenUtc::Refused(refusal_by(20, 0)),
-        }
+        self.utc.ok_or(Refusal::PageNotHeld)
     }
 }

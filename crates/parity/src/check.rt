@@ -6,6 +6,7 @@ ghost use Rattle.parity.specs.Word.{passes};
 use crate::syndrome::syndrome_of;
 
 // Whether the word of a packed window passes the parity table.
+#[tactic(auto, unfolding(crate::specs::Word::passes))]
 pub fn word_passes(window: u32) -> bool
     ensures { result ≡ passes (unpack 32 window) }
 {

@@ -1,9 +1,8 @@
 // The word check. It gives the syndrome: the failures of the six equations, by the parity table as masks.
 ghost use Rattle.std.specs.Prelude.{◌≡◌, ℕ, ◌<◌, get_or};
 ghost use Rattle.bits.specs.Bits.{unpack};
-ghost use Rattle.parity.specs.Table.{line};
 ghost use Rattle.parity.specs.internal.Masks.{mask_of};
-ghost use Rattle.parity.specs.Word.{failure, syndrome};
+ghost use Rattle.parity.specs.Word.{syndrome};
 
 // The lines of the parity table as masks of a packed window: P highest, then Q, then bits 1 to 30.
 // The exclusive-or of a mask's bits is 0 where the equation holds. Each source bit brings Q in once,
@@ -19,25 +18,16 @@ fn mask_table() -> [u32; 6]
     MASKS
 }
 
-// 1 where the equation in line k fails, else 0.
-fn equation_failure(window: u32, k: usize) -> u32
-    requires { k < 6 }
-    ensures { result ≡ failure (unpack 32 window) (line k) }
-{
-    u32::count_ones(window & mask_table()[k]) % 2
-}
-
 // The syndrome of a packed window: a six-bit number whose digits, the highest first, are the failures of equations 25 to 30. The word
 // passes where it is 0.
 pub fn syndrome_of(window: u32) -> u32
     ensures number { result ≡ syndrome (unpack 32 window) }
     ensures bound { result < 64 }
 {
-    let mut syndrome: u32 = 0;
-    let mut k: usize = 0;
-    while k < 6 {
-        syndrome = syndrome * 2 + equation_failure(window, k);
-        k += 1;
+    let masks = mask_table();
+    let mut syndrome = 0;
+    for mask in masks.iter() {
+        syndrome = syndrome * 2 + (window & *mask).count_ones() % 2;
     }
     syndrome
 }

@@ -1,3 +1,2 @@
 -- Laws about the definitions of this crate.
 pub mod Laid
-pub mod Answers

@@ -5,4 +5,4 @@ mod list;
 mod ranking;
 mod standing;
 
-pub use ranking::{Ranked, rank};
+pub use ranking::rank;

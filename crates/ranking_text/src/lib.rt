@@ -1,110 +1,84 @@
 // The ranking of a collector's satellites as text: a line for each whose set can be given, then the others with the reason.
 #![tactic(auto)]
 
-use accuracy::{GivenAccuracy, UserRangeAccuracy};
+use accuracy::UserRangeAccuracy;
 use answer::Refusal;
 use collector::Collector;
-use console::{end_line, print, print_byte, print_number, print_phrase, print_refusal};
-use orbit_set::{GivenSet, OrbitSet};
-use ranking::Ranked;
+use console::print_refusal;
+use orbit_set::OrbitSet;
 use record::Subframe1;
-use record_text::print_tenths;
+use record_text::Tenths;
+use std::fmt;
+use std::fmt::{Display, Formatter};
 
-fn tab() {
-    print_byte(b'\t');
-}
+// The accuracy that a subframe 1 states.
+#[derive(Clone, Copy)]
+struct Metres(Subframe1);
 
-fn print_length(a: UserRangeAccuracy) {
-    match a {
-        UserRangeAccuracy::Metres(x) => print_tenths(x),
-        UserRangeAccuracy::NoPrediction => print(b"no prediction"),
+impl Display for Metres {
+    fn fmt<W: fmt::Write>(&self, f: &mut Formatter<W>) -> fmt::Result {
+        match accuracy::accuracy(self.0) {
+            Ok(UserRangeAccuracy::Metres(x)) => write!(f, "{}", Tenths(x)),
+            Ok(UserRangeAccuracy::NoPrediction) => f.write_str("no prediction"),
+            Err(refusal) => write!(f, "{refusal}"),
+        }
     }
 }
 
-// The accuracy that a subframe 1 states.
-fn print_accuracy(r: Subframe1) {
-    match accuracy::accuracy(r) {
-        GivenAccuracy::Given(a) => print_length(a),
-        GivenAccuracy::Refused(refusal) => print_phrase(refusal.number),
+// Why a set is refused, with the subframe that is not held.
+#[derive(Clone, Copy)]
+struct Reason(Refusal);
+
+impl Display for Reason {
+    fn fmt<W: fmt::Write>(&self, f: &mut Formatter<W>) -> fmt::Result {
+        match self.0 {
+            Refusal::SubframeNotHeld(n) => write!(f, "subframe {n} not held"),
+            refusal => write!(f, "{refusal}"),
+        }
     }
 }
 
 // The line of a satellite with its set: number, URA index, accuracy, count of subframe 1 and issue.
-fn print_line(satellite: usize, set: OrbitSet) {
+fn print_line<R: Print>(rt: &R, satellite: usize, set: OrbitSet) {
     let first = set.subframe1;
-    let header = first.header;
-    print_number(satellite as u64);
-    tab();
-    print_number(first.ura as u64);
-    tab();
-    print_accuracy(first);
-    tab();
-    print_number(header.count as u64);
-    tab();
-    print_number(first.iodc_low as u64);
-    end_line();
+    let _ = println!(rt;
+        "{satellite}\t{}\t{}\t{}\t{}",
+        first.ura,
+        Metres(first),
+        first.header.count,
+        first.iodc_low
+    );
 }
 
-// The line of a satellite in the list. Number 0 is that of none.
-fn print_listed(c: Collector, satellite: usize) {
-    match c.set(satellite) {
-        GivenSet::Given(set) => print_line(satellite, set),
-        GivenSet::Refused(_) => {}
-    }
-}
-
-fn print_list(c: Collector, satellites: [u8; 32]) {
-    let mut i: usize = 0;
-    while i < 32 {
-        print_listed(c, satellites[i] as usize);
-        i += 1;
-    }
-}
-
-// Why a set is refused. Number 17 names the subframe.
-fn print_reason(r: Refusal) {
-    if r.number == 17 {
-        print(b"subframe ");
-        print_number(r.detail as u64);
-        print(b" not held");
-    } else {
-        print_phrase(r.number);
-    }
-}
-
-// The line of a satellite of which something is held and whose set is refused.
-fn print_unlisted(c: Collector, satellite: usize) {
-    if !c.holds_any(satellite) {
-        return;
-    }
-    match c.set(satellite) {
-        GivenSet::Given(_) => {}
-        GivenSet::Refused(r) => {
-            print_number(satellite as u64);
-            tab();
-            print_reason(r);
-            end_line();
+// The lines of the first n satellites of the list.
+fn print_list<R: Print>(rt: &R, c: &Collector, satellites: [u8; 32], n: usize) {
+    for satellite in satellites.into_iter().take(n).map(usize::from) {
+        if let Ok(set) = c.set(satellite) {
+            print_line(rt, satellite, set);
         }
     }
 }
 
-fn print_others(c: Collector) {
-    let mut n: usize = 1;
-    while n <= 32 {
-        print_unlisted(c, n);
-        n += 1;
+// The lines of the satellites of which something is held and whose set is refused.
+fn print_others<R: Print>(rt: &R, c: &Collector) {
+    for n in 1..=32 {
+        if c.holds_any(n)
+            && let Err(refusal) = c.set(n)
+        {
+            let _ = println!(rt; "{n}\t{}", Reason(refusal));
+        }
     }
 }
 
 // Prints the ranking: a header, the list, and the others.
-pub fn print_ranking(c: Collector) {
+pub fn print_ranking<R: Print>(rt: &R, c: &Collector) {
     let mut satellites = [0u8; 32];
     match ranking::rank(c, &mut satellites) {
-        Ranked::Length(_) => {
-            print(b"satellite\tura\tmetres\tcount\tissue\n");
-            print_list(c, satellites);
-            print_others(c);
+        Ok(n) => {
+            let _ = println!(rt; "satellite\tura\tmetres\tcount\tissue");
+            print_list(rt, c, satellites, n);
+            print_others(rt, c);
         }
-        Ranked::Refused(r) => print_refusal(r),
+        Err(refusal) => print_refusal(rt, refusal),
     }
 }

@@ -4,4 +4,4 @@
 mod numbers;
 mod reader;
 
-pub use reader::{Reading, read};
+pub use reader::read;

@@ -1,4 +1,5 @@
 // The numbers that stand in the source bits of a block, which are counted from 0 through its ten words.
+// The log and the place stay apart: a view of the block would test its room again, which the check has done, and the bits need no room.
 ghost use Rattle.std.specs.Prelude.{◌≡◌, ℕ, ◌+◌, ◌≤◌, ◌<◌, get_or};
 ghost use Rattle.layout.specs.internal.Table.{numbers_at};
 ghost use Rattle.bits.specs.Bits.{bits_at, pack};
@@ -21,11 +22,9 @@ pub(crate) fn number_at(log: &[u8], p: usize, at: usize, width: usize) -> u32
     requires { (at + width ≤ 240) × (width ≤ 32) }
     ensures { result ≡ pack width (bits_at (source (bits_at log.now p)) at) }
 {
-    let mut n: u32 = 0;
-    let mut i: usize = 0;
-    while i < width {
+    let mut n = 0;
+    for i in 0..width {
         n = n * 2 + source_bit(log, p, at + i);
-        i += 1;
     }
     n
 }
@@ -42,12 +41,9 @@ pub(crate) fn numbers_at(
 {
     let mut numbers = [0u32; MOST_FIELDS];
     let mut place = at;
-    let mut i: usize = 0;
-    while i < MOST_FIELDS {
-        let width = widths[i];
-        numbers[i] = number_at(log, p, place, width);
-        place += width;
-        i += 1;
+    for (i, width) in widths.iter().enumerate() {
+        numbers[i] = number_at(log, p, place, *width);
+        place += *width;
     }
     numbers
 }

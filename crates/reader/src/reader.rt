@@ -4,18 +4,11 @@ ghost use Rattle.bits.specs.Bits.{bits_at};
 ghost use Rattle.block.specs.Block.{source};
 ghost use Rattle.record.specs.Source.{header_in, record_of};
 ghost use Rattle.reader.specs.Reader as Reader;
-ghost use Rattle.reader.specs.Reader.{reading_answer};
+ghost use Rattle.answer.specs.Answer.{answer_of};
 
 use crate::numbers::{number_at, numbers_at};
-use answer::{Checked, Refusal};
+use answer::Refusal;
 use record::{Header, Record};
-
-// The answer of the reader.
-#[derive(Clone, Copy)]
-pub enum Reading {
-    Accepted(Record),
-    Refused(Refusal),
-}
 
 fn header_at(log: &[u8], p: usize) -> Header
     ensures { result ≡ header_in (source (bits_at log.now p)) }
@@ -34,11 +27,10 @@ fn record_at(log: &[u8], p: usize) -> Record
 }
 
 // Reads the block at place p of a log.
-pub fn read(log: &[u8], p: usize) -> Reading
-    ensures { reading_answer result ≡ Reader.read log.now p }
+#[tactic(auto, unfolding(crate::specs::Reader::read, answer::specs::Answer::when_accepted))]
+pub fn read(log: &[u8], p: usize) -> Result<Record, Refusal>
+    ensures { answer_of result ≡ Reader.read log.now p }
 {
-    match block_check::check_block(log, p) {
-        Checked::Accepted => Reading::Accepted(record_at(log, p)),
-        Checked::Refused(r) => Reading::Refused(r),
-    }
+    block_check::check_block(log, p)?;
+    Ok(record_at(log, p))
 }

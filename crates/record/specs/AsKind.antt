@@ -1,5 +1,5 @@
 -- Definitions. A record as the record of one kind, none where it is of another.
-use Rattle.std.proofs.Math.Option.{Option, none, some}
+use Rattle.std.specs.Prelude.{Option, None, Some}
 use Rattle.record.specs.declared.record.Subframe1.{Subframe1}
 use Rattle.record.specs.declared.record.Subframe2.{Subframe2}
 use Rattle.record.specs.declared.record.Subframe3.{Subframe3}
@@ -19,19 +19,19 @@ module _ {A : Type 0} where
   by_kind one two three almanac utc other (R.Other r) = other r
 
   abbrev pub no : {B : Type 0} → B → Option A
-  no b = none
+  no b = None
 
 unfoldable pub as_subframe1 : Record → Option Subframe1
-as_subframe1 = by_kind some no no no no no
+as_subframe1 = by_kind Some no no no no no
 
 unfoldable pub as_subframe2 : Record → Option Subframe2
-as_subframe2 = by_kind no some no no no no
+as_subframe2 = by_kind no Some no no no no
 
 unfoldable pub as_subframe3 : Record → Option Subframe3
-as_subframe3 = by_kind no no some no no no
+as_subframe3 = by_kind no no Some no no no
 
 unfoldable pub as_almanac : Record → Option AlmanacPage
-as_almanac = by_kind no no no some no no
+as_almanac = by_kind no no no Some no no
 
 unfoldable pub as_utc : Record → Option UtcPage
-as_utc = by_kind no no no no some no
+as_utc = by_kind no no no no Some no

@@ -1,4 +1,5 @@
 -- The files of this folder: definitions; laws about them.
+pub mod KindNumber
 pub mod Kind
 pub mod Fields
 pub mod Record

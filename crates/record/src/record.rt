@@ -2,8 +2,11 @@
 // An unsigned field is a u32 and a signed one an i32, the whole number that stands in the message. Beside it are its bits and, where it has
 // a scale, the value of 1 in it with its unit. A field that the message reserves is named for its word.
 
+ghost use Rattle.std.specs.Prelude.{◌≡◌};
+ghost use Rattle.record.specs.Record.{header};
+
 // Words 1 and 2 after the preamble.
-#[derive(Clone, Copy)]
+#[derive(Clone, Copy, Debug, PartialEq, Eq)]
 pub struct Header {
     pub message: u32, // 14 bits
     pub reserved: u32, // 2 bits
@@ -14,7 +17,7 @@ pub struct Header {
 }
 
 // Subframe 1: week, health and clock.
-#[derive(Clone, Copy)]
+#[derive(Clone, Copy, Debug, PartialEq, Eq)]
 pub struct Subframe1 {
     pub header: Header,
     pub week: u32, // 10 bits
@@ -36,7 +39,7 @@ pub struct Subframe1 {
 }
 
 // Subframe 2: the first half of the ephemeris.
-#[derive(Clone, Copy)]
+#[derive(Clone, Copy, Debug, PartialEq, Eq)]
 pub struct Subframe2 {
     pub header: Header,
     pub iode: u32, // 8 bits
@@ -53,7 +56,7 @@ pub struct Subframe2 {
 }
 
 // Subframe 3: the second half of the ephemeris.
-#[derive(Clone, Copy)]
+#[derive(Clone, Copy, Debug, PartialEq, Eq)]
 pub struct Subframe3 {
     pub header: Header,
     pub cic: i32, // 16 bits signed, 2^-29 rad
@@ -68,7 +71,7 @@ pub struct Subframe3 {
 }
 
 // An almanac page. The message has af0 in two parts, before and after af1; here it is one value.
-#[derive(Clone, Copy)]
+#[derive(Clone, Copy, Debug, PartialEq, Eq)]
 pub struct AlmanacPage {
     pub header: Header,
     pub data_id: u32, // 2 bits
@@ -87,7 +90,7 @@ pub struct AlmanacPage {
 }
 
 // The UTC page, with the ionospheric terms.
-#[derive(Clone, Copy)]
+#[derive(Clone, Copy, Debug, PartialEq, Eq)]
 pub struct UtcPage {
     pub header: Header,
     pub data_id: u32, // 2 bits
@@ -112,7 +115,7 @@ pub struct UtcPage {
 }
 
 // Each other page of subframes 4 and 5.
-#[derive(Clone, Copy)]
+#[derive(Clone, Copy, Debug, PartialEq, Eq)]
 pub struct OtherPage {
     pub header: Header,
     pub data_id: u32, // 2 bits
@@ -127,7 +130,7 @@ pub struct OtherPage {
     pub reserved10: u32, // 22 bits
 }
 
-#[derive(Clone, Copy)]
+#[derive(Clone, Copy, Debug, PartialEq, Eq)]
 pub enum Record {
     Subframe1(Subframe1),
     Subframe2(Subframe2),
@@ -135,4 +138,20 @@ pub enum Record {
     Almanac(AlmanacPage),
     Utc(UtcPage),
     Other(OtherPage),
+}
+
+impl Record {
+    // The header, which each kind has.
+    pub fn header(self) -> Header
+        ensures { result ≡ header self }
+    {
+        match self {
+            Record::Subframe1(s) => s.header,
+            Record::Subframe2(s) => s.header,
+            Record::Subframe3(s) => s.header,
+            Record::Almanac(p) => p.header,
+            Record::Utc(p) => p.header,
+            Record::Other(p) => p.header,
+        }
+    }
 }

@@ -1,4 +1,4 @@
-// The widths of the fields, as tables of 19, which is the number of fields of the longest kind. Entries past the last field are 0.
+// The widths of the fields, as tables of 19, which is the number of fields of the longest kind. Entries past the last field are 0. One size serves all: no heap.
 ghost use Rattle.std.specs.Prelude.{◌≡◌};
 ghost use Rattle.layout.specs.Table as Table;
 ghost use Rattle.record.specs.Fields.{header_fields, fields_of};
@@ -33,6 +33,7 @@ const OTHER: [usize; MOST_FIELDS] = [
 ];
 
 // The widths of the header's fields.
+#[tactic(auto, unfolding(layout::specs::Table::widths))]
 pub fn header_widths() -> [usize; MOST_FIELDS]
     ensures { result ≡ Table.widths 19 header_fields }
 {
@@ -40,6 +41,7 @@ pub fn header_widths() -> [usize; MOST_FIELDS]
 }
 
 // The widths of a kind's fields.
+#[tactic(auto, unfolding(layout::specs::Table::widths))]
 pub fn widths(kind: Kind) -> [usize; MOST_FIELDS]
     ensures { result ≡ Table.widths 19 (fields_of kind) }
 {

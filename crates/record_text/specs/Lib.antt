@@ -1,2 +1,3 @@
 -- The files of this folder: definitions.
 pub mod FieldLines
+pub mod Kinds

@@ -1,85 +1,58 @@
-// Prints a record: a line for each field, or all of it on one line.
-use crate::decimals::print_scaled;
-use crate::table::{COUNT, FIRST, KINDS, field_table};
-use console::{end_line, print, print_signed, space};
-use digits::Whole;
+// Prints a record: a line for each field, or all of it on one line. What cannot be printed is lost.
+use crate::decimals::{Exact, Scaled, pattern};
+use crate::kinds::{kind_name, own_lines};
+use crate::table::{HEADER, field_table};
 use record::Record;
 
-// The line of field i of a kind.
-fn field_line(kind: usize, i: usize) -> usize {
-    if i < 6 {
-        return i;
-    }
-    std::num::wrapping_add_usize(FIRST[kind % 8], i - 6)
+// A text of the table, which is ASCII.
+fn text(bytes: &[u8]) -> &str {
+    str::from_utf8(bytes).unwrap_or("")
 }
 
-// Prints the value of a number by its field's scale and unit, where it has them.
-fn print_value(field: &[u8], number: i64) {
-    let Whole::Value(scale) = digits::whole(lines::word(field, 1)) else {
-        return;
-    };
-    space();
-    print_scaled(number, scale);
-    space();
-    print(lines::word(field, 2));
-}
-
-// Prints a field as a line: name and number, and the value with its unit.
-fn print_long(field: &[u8], number: i64) {
-    print(lines::word(field, 0));
-    space();
-    print_signed(number);
-    print_value(field, number);
-    end_line();
-}
-
-// Prints a field as `NAME=NUMBER`.
-fn print_short(field: &[u8], number: i64) {
-    space();
-    print(lines::word(field, 0));
-    print(b"=");
-    print_signed(number);
-}
-
-fn print_field(kind: usize, i: usize, number: i64, is_long: bool) {
-    let table = field_table();
-    let field = lines::line(&table, field_line(kind, i));
-    if is_long {
-        print_long(field, number);
-    } else {
-        print_short(field, number);
-    }
-}
-
-fn print_numbers(kind: usize, numbers: [i64; 25], is_long: bool) {
-    let mut i: usize = 0;
-    while i < 25 {
-        if COUNT[kind % 8] <= i {
-            return;
+// Prints a number as a line: name and number, and, where its line in the table has a scale, the value with its unit.
+fn print_long<R: Print>(rt: &R, field: &[u8], number: i64) {
+    let name = text(lines::word(field, 0));
+    match digits::whole(lines::word(field, 1)) {
+        Some(scale) => {
+            let unit = text(lines::word(field, 2));
+            let _ = println!(rt; "{name} {number} {} {unit}", Scaled { number, scale });
         }
-        print_field(kind, i, numbers[i], is_long);
-        i += 1;
+        None => {
+            let _ = println!(rt; "{name} {number}");
+        }
     }
 }
 
-fn print_kind(kind: usize) {
-    let table = KINDS;
-    print(lines::line(&table, std::num::wrapping_sub_usize(kind, 1)));
+// Prints a number as `NAME=NUMBER`.
+fn print_short<R: Print>(rt: &R, field: &[u8], number: i64) {
+    let _ = print!(rt; " {}={number}", text(lines::word(field, 0)));
+}
+
+// Prints each field of a record by its line in the table and its number.
+fn print_numbers<F: Fn(&[u8], i64)>(r: Record, print: F)
+    requires { F.IsAlwaysCallable print }
+{
+    let table = field_table();
+    let fields = (0..HEADER).chain(own_lines(kind::kind_of(r)));
+    for (i, number) in fields.zip(values::values_of(r)) {
+        print(lines::line(&table, i), number);
+    }
 }
 
 // Prints the kind, and a line for each field: name, number, and the value with its unit.
-pub fn print_fields(r: Record) {
-    let kind = kind::kind_number(r) as usize;
-    print(b"kind ");
-    print_kind(kind);
-    end_line();
-    print_numbers(kind, values::values_of(r), true);
+pub fn print_fields<R: Print>(rt: &R, r: Record) {
+    let _ = println!(rt; "kind {}", kind_name(kind::kind_of(r)));
+    print_numbers(r, |field, number| print_long(rt, field, number));
 }
 
 // Prints a record as a line: its kind, and `NAME=NUMBER` for each field.
-pub fn print_record(r: Record) {
-    let kind = kind::kind_number(r) as usize;
-    print_kind(kind);
-    print_numbers(kind, values::values_of(r), false);
-    end_line();
+pub fn print_record<R: Print>(rt: &R, r: Record) {
+    let _ = print!(rt; "{}", kind_name(kind::kind_of(r)));
+    print_numbers(r, |field, number| print_short(rt, field, number));
+    let _ = println!(rt);
+}
+
+// Prints a double as a line: its name, the double as an exact decimal, its unit, and its bits as 16 hexadecimal digits.
+pub fn print_double<R: Print>(rt: &R, name: &str, x: f64, unit: &str) {
+    let _ = println!(rt; "{name} {} {unit} {:016x}", Exact(x), pattern(x));
 }

@@ -1,24 +1,12 @@
-// The names of the kinds and of their fields, with scales and units.
+// The names of the fields, with scales and units.
 ghost use Rattle.std.specs.Prelude.{◌≡◌};
 ghost use Rattle.record_text.specs.FieldLines.{field_lines};
 
-// Line k - 1 is the name of kind k.
-pub const KINDS: [u8; 48] = *b"subframe1
-subframe2
-subframe3
-almanac
-utc
-other
-";
-
-// The first line of each kind's own fields among FIELDS. There is no kind 0 and no kind 7.
-pub const FIRST: [usize; 8] = [0, 6, 22, 33, 42, 55, 74, 0];
-
-// How many fields a kind has, with the six of the header.
-pub const COUNT: [usize; 8] = [0, 22, 17, 15, 19, 25, 16, 0];
+// How many fields a header has: the first lines of the table.
+pub const HEADER: usize = 6;
 
 // A line for each field: its name, and, where document 01 gives a scale, the scale and the unit. A scale -k stands for 2^-k. The fields of the
-// header come first, then those of kind 1, of kind 2 and so on, each in the order of its struct.
+// header come first, then those of each kind, in the order of its struct.
 const FIELDS: [u8; 1051] = *b"message
 reserved
 count 6 s

@@ -2,9 +2,9 @@
 #![tactic(auto)]
 
 ghost use Rattle.std.specs.Prelude.{◌≡◌};
-ghost use Rattle.satellite.specs.Satellite.{empty_satellite, subframes_after, satellite_after};
+ghost use Rattle.satellite.specs.Satellite.{empty_satellite, satellite_after};
 
-use orbit_set::{HeldSubframe1, HeldSubframe2, HeldSubframe3, HeldSubframes};
+use orbit_set::HeldSubframes;
 use record::Record;
 
 // What is held of one satellite.
@@ -15,52 +15,29 @@ pub struct Satellite {
 
 impl Satellite {
     // The satellite of which nothing is held.
+    #[tactic(auto, unfolding(crate::specs::Satellite::empty_satellite))]
     pub fn empty() -> Self
         ensures { result ≡ empty_satellite }
     {
         Satellite {
             subframes: HeldSubframes {
-                subframe1: HeldSubframe1::Nothing,
-                subframe2: HeldSubframe2::Nothing,
-                subframe3: HeldSubframe3::Nothing,
+                subframe1: None,
+                subframe2: None,
+                subframe3: None,
             },
         }
     }
-}
 
-// The held subframes after a record of the satellite.
-fn subframes_after(held: HeldSubframes, r: Record) -> HeldSubframes
-    ensures { result ≡ subframes_after held r }
-{
-    let subframe1 = held.subframe1;
-    let subframe2 = held.subframe2;
-    let subframe3 = held.subframe3;
-    match r {
-        Record::Subframe1(latest) => HeldSubframes {
-            subframe1: HeldSubframe1::Latest(latest),
-            subframe2,
-            subframe3,
-        },
-        Record::Subframe2(latest) => HeldSubframes {
-            subframe1,
-            subframe2: HeldSubframe2::Latest(latest),
-            subframe3,
-        },
-        Record::Subframe3(latest) => HeldSubframes {
-            subframe1,
-            subframe2,
-            subframe3: HeldSubframe3::Latest(latest),
-        },
-        _ => held,
-    }
-}
-
-// What is held of a satellite after a record of its own. A page leaves it as it was.
-pub fn after(s: Satellite, r: Record) -> Satellite
-    ensures { result ≡ satellite_after s r }
-{
-    let held = s.subframes;
-    Satellite {
-        subframes: subframes_after(held, r),
+    // Holds a record of the satellite in place of the one of its kind. A page leaves it as it was.
+    #[tactic(auto, unfolding(crate::specs::Satellite::satellite_after, crate::specs::Satellite::subframes_after, record::specs::AsKind::as_subframe1, record::specs::AsKind::as_subframe2, record::specs::AsKind::as_subframe3, record::specs::AsKind::by_kind))]
+    pub fn hold(&mut self, r: Record)
+        ensures { self.new ≡ satellite_after self.old r }
+    {
+        match r {
+            Record::Subframe1(latest) => self.subframes.subframe1 = Some(latest),
+            Record::Subframe2(latest) => self.subframes.subframe2 = Some(latest),
+            Record::Subframe3(latest) => self.subframes.subframe3 = Some(latest),
+            _ => {}
+        }
     }
 }

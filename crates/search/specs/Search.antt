@@ -2,17 +2,10 @@
 use Rattle.std.specs.Prelude.{◌≡◌, List, [], ℕ, ◌-◌, ◌<◌, ◌≤◌, leb, ltb, length, take, drop}
 use Rattle.bits.specs.Bits.{bits_at}
 use Rattle.finite.specs.First.{first_from}
-use Rattle.answer.specs.Answer.{Answer, accepted, refused, refuse_if, refusal_answer}
+use Rattle.answer.specs.Answer.{Answer, accepted, refused, refuse_if}
 use Rattle.block.specs.Block.{source}
 use Rattle.block_check.specs.Check.{accepted_at}
 use Rattle.block_check.specs.Compare.{Accepted, Equal}
-use Rattle.search.specs.declared.place.Found.{Found}
-use Rattle.search.specs.declared.place.Found.TheVariants.{At, Refused}
-
--- what the code's answer says
-unfoldable pub found_answer : Found → Answer ℕ
-found_answer (At q) = accepted q
-found_answer (Refused r) = refusal_answer r
 
 -- the first accepted place at or after p, the places up to the log's end being tried one after the other; where none is accepted, a place at or
 -- past the end

@@ -5,4 +5,4 @@ mod part;
 mod place;
 
 pub use part::find_part;
-pub use place::{Found, find};
+pub use place::find;

@@ -1,3 +1,4 @@
 -- Laws about the definitions of this crate.
 pub mod Text
 pub mod Put
+pub mod Cursor

@@ -4,5 +4,4 @@
 mod digits;
 mod put;
 
-pub use digits::put_bits;
-pub use put::{put_byte, put_decimal, put_field, put_refusal, put_text};
+pub use put::Cursor;

@@ -1,11 +1,11 @@
-// The answer as C has it, of a call that gives no value: number and detail, 0 and 0 where the call is accepted.
+// The answer as C has it: number and detail, 0 and 0 where the call is accepted.
 #![tactic(auto)]
 
 ghost use Rattle.std.specs.Prelude.{◌≡◌};
-ghost use Rattle.answer.specs.Answer.{checked_answer};
+ghost use Rattle.answer.specs.Answer.{answer_of};
 ghost use Rattle.told.specs.Told as Told;
 
-use answer::Checked;
+use answer::Refusal;
 
 // The number and the detail of an answer.
 #[repr(C)]
@@ -15,17 +15,20 @@ pub struct LnavAnswer {
     pub detail: usize,
 }
 
-pub fn answer_of(c: Checked) -> LnavAnswer
-    ensures { result ≡ Told.told (checked_answer c) }
-{
-    match c {
-        Checked::Accepted => LnavAnswer {
-            number: 0,
-            detail: 0,
-        },
-        Checked::Refused(r) => LnavAnswer {
-            number: r.number,
-            detail: r.detail,
-        },
+impl<T: Copy> From<Result<T, Refusal>> for LnavAnswer {
+    ghost from_gives = { λ answer r. r ≡ Told.told (answer_of answer) };
+
+    #[tactic(auto, unfolding(crate::specs::Told::told, answer::specs::Answer::number, answer::specs::Answer::detail))]
+    fn from(answer: Result<T, Refusal>) -> LnavAnswer {
+        match answer {
+            Ok(_) => LnavAnswer {
+                number: 0,
+                detail: 0,
+            },
+            Err(r) => LnavAnswer {
+                number: r.number(),
+                detail: r.detail(),
+            },
+        }
     }
 }

@@ -1,7 +1,7 @@
 -- Definitions. The time of day in UTC at a GPS week and second (document 01, 'GPS second to UTC', and numbers 14 to 16 of its table).
 use Rattle.std.specs.Prelude.{Bool, not, cond, ◌&&◌, ℕ, ◌+◌, ◌*◌, leb, ℤ, pos, negsuc, ◌-ℤ◌}
 use Rattle.std.specs.Int.Signed.{lt_z}
-use Rattle.answer.specs.Answer.{Answer, accepted, refuse_if, refusal_answer}
+use Rattle.answer.specs.Answer.{Answer, accepted, refuse_if}
 use Rattle.integers.specs.Whole.{eq_z, modulo}
 use Rattle.record.specs.Writable.{writable}
 use Rattle.record.specs.declared.record.UtcPage.{UtcPage}
@@ -9,13 +9,6 @@ use Rattle.record.specs.declared.record.Record.TheVariants as R
 use Rattle.leap.specs.Leap.{week_difference, leap_moment}
 use Rattle.day.specs.Day.{time_at}
 use Rattle.day.specs.declared.TimeOfDay.{TimeOfDay}
-use Rattle.utc.specs.declared.time.GivenTime.{GivenTime}
-use Rattle.utc.specs.declared.time.GivenTime.TheVariants.{Given, Refused}
-
--- what the code's answer says
-unfoldable pub given_time_answer : GivenTime → Answer TimeOfDay
-given_time_answer (Given t) = accepted t
-given_time_answer (Refused r) = refusal_answer r
 
 -- GPS time, in seconds from the start of week 0
 unfoldable pub gps_time : ℕ → ℕ → ℤ

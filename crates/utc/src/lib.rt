@@ -3,4 +3,4 @@
 
 mod time;
 
-pub use time::{GivenTime, time_of_day};
+pub use time::time_of_day;

@@ -20,9 +20,6 @@ padded (suc n) (z ∷ l) = z ∷ padded n l
 abbrev pub header_then : Header → List ℤ → List ℤ
 header_then h l = pos h.message ∷ pos h.reserved ∷ pos h.count ∷ pos h.flag18 ∷ pos h.flag19 ∷ pos h.subframe ∷ l
 
-unfoldable pub values_of_header : Header → List ℤ
-values_of_header h = padded 25 (header_then h [])
-
 unfoldable pub values_of_subframe1 : Subframe1 → List ℤ
 values_of_subframe1 r = padded 25 (header_then r.header (pos r.week ∷ pos r.l2_code ∷ pos r.ura ∷ pos r.health ∷ pos r.iodc_high ∷ pos r.l2p_flag ∷ pos r.reserved4 ∷ pos r.reserved5 ∷ pos r.reserved6 ∷ pos r.reserved7 ∷ r.tgd ∷ pos r.iodc_low ∷ pos r.toc ∷ r.af2 ∷ r.af1 ∷ r.af0 ∷ []))
 

@@ -1,7 +1,6 @@
 // A record as 25 whole numbers, for callers that have no structs of ours.
 #![tactic(auto)]
 
-mod numbers;
 mod to_values;
 
 pub use to_values::values_of;

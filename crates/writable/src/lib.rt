@@ -1,38 +1,32 @@
 // Which records the writer takes: number 11 refuses all others.
 #![tactic(auto)]
 
-ghost use Rattle.std.specs.Prelude.{◌≡◌, ℕ, ◌≤◌, ◌^◌, ltb, get_or};
+ghost use Rattle.std.specs.Prelude.{◌≡◌, ℕ, ◌≤◌, get_or};
+ghost use Rattle.answer.specs.Answer.{answer_of};
 ghost use Rattle.layout.specs.internal.Table.{all_fit};
 ghost use Rattle.layout.specs.Layout.{all_within};
 ghost use Rattle.record.specs.Fields.{header_fields, fields_of};
 ghost use Rattle.record.specs.Record.{kind_of, header, header_values, field_values};
 ghost use Rattle.record.specs.Writable as Writable;
+ghost use Rattle.writable.specs.Check as Check;
 
+use answer::Refusal;
 use header::header_numbers;
 use numbers::field_numbers;
 use record::{MOST_FIELDS, Record};
 
-// The largest count of a week.
+// The largest count of a week. Crate block has the same number for counts in a log, as a `usize`; this crate does not stand on block.
 const LARGEST_COUNT: u32 = 100799;
-
-fn fits(n: u32, width: usize) -> bool
-    requires { width ≤ 32 }
-    ensures { result ≡ ltb n (2 ^ width) }
-{
-    (n as u64) < (1u64 << width)
-}
 
 // Whether each number is within its width.
 fn all_fit(widths: [usize; MOST_FIELDS], n: [u32; MOST_FIELDS]) -> bool
     requires { (i : ℕ) → get_or widths i 0 ≤ 32 }
     ensures { result ≡ all_fit 19 widths n }
 {
-    let mut i: usize = 0;
-    while i < MOST_FIELDS {
-        if !fits(n[i], widths[i]) {
+    for (width, number) in widths.iter().zip(&n) {
+        if u64::from(*number) >= 1 << *width {
             return false;
         }
-        i += 1;
     }
     true
 }
@@ -52,18 +46,24 @@ fn fields_within(r: Record) -> bool
 }
 
 // Whether the writer takes the record.
+#[tactic(auto, unfolding(record::specs::Writable::writable, record::specs::Writable::within_fields))]
 pub fn writable(r: Record) -> bool
     ensures { result ≡ Writable.writable r }
 {
-    if !header_within(r) {
-        return false;
+    header_within(r)
+        && fields_within(r)
+        && r.header().count <= LARGEST_COUNT
+        && kind::of_its_kind(r)
+}
+
+// Refuses a record that the writer does not take.
+#[tactic(auto, unfolding(crate::specs::Check::check_writable, answer::specs::Answer::refuse_if))]
+pub fn check_writable(r: Record) -> Result<(), Refusal>
+    ensures { answer_of result ≡ Check.check_writable r }
+{
+    if writable(r) {
+        Ok(())
+    } else {
+        Err(Refusal::NotWritable)
     }
-    if !fields_within(r) {
-        return false;
-    }
-    // The count is the third number of the header.
-    if LARGEST_COUNT < header_numbers(r)[2] {
-        return false;
-    }
-    kind::of_its_kind(r)
 }

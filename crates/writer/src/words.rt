@@ -1,19 +1,17 @@
 // The words of a block, one after the other, from its message.
 ghost use Rattle.std.specs.Prelude.{◌≡◌, ℕ, ◌/◌, ◌%◌, ◌≤◌, ◌<◌};
 ghost use Rattle.finite.specs.Tabulate.{tabulate};
-ghost use Rattle.text.specs.Put.{Put};
+ghost use Rattle.text.specs.Cursor.{Puts};
 ghost use Rattle.bits.specs.Bits.{bits_at, pack};
 ghost use Rattle.writer.specs.Written.{has_fillers, word_after, block_from};
 
-use text::put_bits;
+use text::Cursor;
 
+#[tactic(auto, unfolding(crate::specs::Written::has_fillers))]
 fn has_fillers(k: usize) -> bool
     ensures { result ≡ has_fillers k }
 {
-    if k == 2 {
-        return true;
-    }
-    k == 10
+    matches!(k, 2 | 10)
 }
 
 // Word k after the window `before`, packed, in a block whose start pair is a, a.
@@ -28,19 +26,16 @@ fn word_after(message: &[u8; 240], a: u32, k: usize, before: u32) -> u32
     encoder::encode_word(before / 2 % 2, before % 2, source)
 }
 
-// Writes the block that carries a message from the start pair a, a on, and gives the index after it.
-pub(crate) fn put_block(buf: &mut [u8], message: &[u8; 240], a: u32) -> usize
+// Writes the block that carries a message from the start pair a, a on.
+pub(crate) fn put_block(out: &mut Cursor<'_>, message: &[u8; 240], a: u32)
     requires { (a < 2) × ((i : ℕ) → bits_at message.now 0 i < 2) }
-    ensures { Put buf.old 0 (tabulate 302 (block_from (bits_at message.now 0) a)) buf.new result }
+    ensures { Puts out.old (tabulate 302 (block_from (bits_at message.now 0) a)) out.new }
 {
     // The start pair as a number of two bits.
     let mut window = a * 3;
-    let mut next = put_bits(buf, 0, 2, window);
-    let mut k: usize = 0;
-    while k < 10 {
-        window = word_after(message, a, k + 1, window);
-        next = put_bits(buf, next, 30, window);
-        k += 1;
+    out.put_bits(2, window);
+    for k in 1..=10 {
+        window = word_after(message, a, k, window);
+        out.put_bits(30, window);
     }
-    next
 }

@@ -1,8 +1,7 @@
 -- Laws. The table of lengths: its entries, that each is the nearest double, and which index has none.
-use Rattle.std.specs.Prelude.{◌≡◌, refl, Bool, true, false, cond, List, [], ◌∷◌, map, ◌↔◌, ℕ, zero, suc, ◌<◌, ltb, Float, length, get_or}
+use Rattle.std.specs.Prelude.{◌≡◌, refl, Bool, true, false, cond, List, [], ◌∷◌, map, ◌↔◌, ℕ, zero, suc, ◌<◌, ltb, Float, Option, Some, None, length, get_or}
 use Rattle.std.proofs.Common.{sym, ap, ◌∙◌, le_of_suc-le-suc, not-suc-le-zero, arith, ltb-true, ltb-false}
 use Rattle.std.proofs.lemmas.Bool.{false≢true}
-use Rattle.std.proofs.Math.Option.{Option, none, some}
 use Rattle.std.specs.Float.Ieee.{size, round, fits, to_bits}
 use Rattle.finite.specs.Every.{every_below}
 use Rattle.finite.specs.laws.Every.{every_below_at}
@@ -35,16 +34,16 @@ metres_nearest k h =
     (every_below_at (length tenths) (λ k. is_rounded (get_or tenths k 0) 10 (nearest_tenths (get_or tenths k 0))) tt k h)
 
 -- in a record that is not refused, exactly index 15 has no prediction
-pub no_prediction : (r : Subframe1) → writable (R.Subframe1 r) ≡ true → (accuracy_for r.ura ≡ none) ↔ (r.ura ≡ 15)
+pub no_prediction : (r : Subframe1) → writable (R.Subframe1 r) ≡ true → (accuracy_for r.ura ≡ None) ↔ (r.ura ≡ 15)
 unfolding accuracy_for within
 no_prediction r h =
     let low : r.ura < 16 = ltb-true r.ura 16 (each_within subframe1_fields (subframe1_values r) (taken (R.Subframe1 r) h).fields_within).1.1.0 in
     (λ e. let high = ltb-false r.ura 15 (none_false (ltb r.ura 15) _ e) in omega arith, λ e. rw e)
   where
     is_some : Option Float → Bool
-    is_some (some x) = true
-    is_some none = false
+    is_some (Some x) = true
+    is_some None = false
 
-    none_false : (t : Bool) (x : Float) → cond t (some x) none ≡ none → t ≡ false
+    none_false : (t : Bool) (x : Float) → cond t (Some x) None ≡ None → t ≡ false
     none_false true x e = absurd (false≢true (sym (ap is_some e)))
     none_false false x e = refl

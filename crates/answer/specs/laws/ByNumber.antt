@@ -1,10 +1,9 @@
 -- Laws. The number of an answer is 0 exactly when the call is accepted, where no line of its table has number 0.
-use Rattle.std.specs.Prelude.{◌≡◌, Bool, ℕ, suc}
+use Rattle.std.specs.Prelude.{◌≡◌, Bool, ℕ, suc, Option, Some, None}
 use Rattle.std.proofs.Math.Path.{refl}
 use Rattle.std.proofs.Common.{sym, arith}
 use Rattle.std.proofs.Math.Bool.{true, false}
 use Rattle.std.proofs.lemmas.Bool.{false≢true}
-use Rattle.std.proofs.Math.Option.{Option, none, some}
 use Rattle.answer.specs.Answer.{Answer, accepted, refused, number, detail, is_accepted, ByNumber, refuse_if, when_accepted, outcome, when_held, and_then}
 
 refused_by_number : (A : Type 0) (n d : ℕ) → ByNumber {A = A} (refused (suc n) d)
@@ -34,8 +33,8 @@ module _ {A : Type 0} where
 
   pub held_by_number : {B : Type 0} (o : Option B) (n d : ℕ) (below : B → Answer A) → ((b : B) → ByNumber (below b)) → ByNumber (when_held o (suc n) d below)
   unfolding when_held
-  held_by_number none n d below h = refused_by_number A n d
-  held_by_number (some b) n d below h = h b
+  held_by_number None n d below h = refused_by_number A n d
+  held_by_number (Some b) n d below h = h b
 
   pub then_by_number : {B : Type 0} (x : Answer B) (question : B → Answer A) → ByNumber x → ((b : B) → ByNumber (question b)) → ByNumber (and_then x question)
   unfolding number is_accepted and_then

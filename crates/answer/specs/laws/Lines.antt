@@ -1,12 +1,11 @@
 -- Laws. The lines of the table, and that a refusal is its number and its detail.
-use Rattle.std.specs.Prelude.{◌≡◌, Bool, ◌↔◌, ℕ}
+use Rattle.std.specs.Prelude.{◌≡◌, Bool, ◌↔◌, ℕ, pred, Result, Ok, Err, [], ◌∷◌, get_or}
 use Rattle.std.proofs.Math.Path.{refl, sym}
 use Rattle.std.proofs.Common.{ap, ◌∙◌}
 use Rattle.std.proofs.Math.Bool.{true, false, false≢true}
-use Rattle.answer.specs.Answer.{Answer, accepted, refused, number, is_accepted, refuse_if, when_accepted, checked_answer}
-use Rattle.answer.specs.declared.Refusal.{Refusal}
-use Rattle.answer.specs.declared.Checked.{Checked}
-use Rattle.answer.specs.declared.Checked.TheVariants.{Accepted, Refused}
+use Rattle.answer.specs.Answer.{Answer, accepted, refused, number, is_accepted, refuse_if, when_accepted, answer_of, refusal_number, refusal_detail}
+use Rattle.answer.specs.declared.refusal.Refusal.{Refusal}
+use Rattle.answer.specs.declared.refusal.Refusal.TheVariants.{LogTooLong, ByteAbove1, TooFewBytes, StartPair, WordBroken, Preamble, Ending, SubframeNumber, Count, NoBlock, NotWritable, BlockBuffer, Satellite, GpsSecond, DayNumber, WeekDifference, SubframeNotHeld, Issue, Health, PageNotHeld, RankingBuffer}
 
 module _ {A : Type 0} where
   pub refused_not : (n d : ℕ) (a : A) → refused n d ≡ accepted a → ⊥
@@ -62,22 +61,56 @@ module _ {A : Type 0} where
   when_accepts (accepted t) a c e = (refl, sym (accepted_injective a c e))
   when_accepts (refused n d) a c e = absurd (refused_not n d c e)
 
--- ---- an enum of the code that holds a value or a refusal
+-- ---- the code's answer
+
+-- the refusal with a number and a detail
+abbrev pub refusal_by : ℕ → ℕ → Refusal
+refusal_by n d = get_or (LogTooLong d ∷ ByteAbove1 d ∷ TooFewBytes d ∷ StartPair d ∷ WordBroken d ∷ Preamble ∷ Ending d ∷ SubframeNumber d ∷ Count d ∷ NoBlock d ∷ NotWritable ∷ BlockBuffer d ∷ Satellite d ∷ GpsSecond ∷ DayNumber d ∷ WeekDifference ∷ SubframeNotHeld d ∷ Issue ∷ Health d ∷ PageNotHeld ∷ RankingBuffer ∷ []) (pred n) RankingBuffer
+
+pub refusal_back : (r : Refusal) → refusal_by (refusal_number r) (refusal_detail r) ≡ r
+refusal_back (LogTooLong d) = refl
+refusal_back (ByteAbove1 d) = refl
+refusal_back (TooFewBytes d) = refl
+refusal_back (StartPair d) = refl
+refusal_back (WordBroken d) = refl
+refusal_back Preamble = refl
+refusal_back (Ending d) = refl
+refusal_back (SubframeNumber d) = refl
+refusal_back (Count d) = refl
+refusal_back (NoBlock d) = refl
+refusal_back NotWritable = refl
+refusal_back (BlockBuffer d) = refl
+refusal_back (Satellite d) = refl
+refusal_back GpsSecond = refl
+refusal_back (DayNumber d) = refl
+refusal_back WeekDifference = refl
+refusal_back (SubframeNotHeld d) = refl
+refusal_back Issue = refl
+refusal_back (Health d) = refl
+refusal_back PageNotHeld = refl
+refusal_back RankingBuffer = refl
+
+-- a refusal is determined by its number and its detail
+pub refusal_injective : (r s : Refusal) → refusal_number r ≡ refusal_number s → refusal_detail r ≡ refusal_detail s → r ≡ s
+refusal_injective r s n d = sym (refusal_back r) ∙ (λ i. refusal_by (n i) (d i)) ∙ refusal_back s
+
+-- ---- an answer of any form that holds a value or a refusal
 
 module _ {A E : Type 0} (given : A → E) (refusal : Refusal → E) where
-  -- the enum with the value, or with the refusal
+  -- the answer with the value, or with the refusal
   unfoldable pub answered : Answer A → E
   answered (accepted a) = given a
-  answered (refused n d) = refusal (record { number = n; detail = d })
+  answered (refused n d) = refusal (refusal_by n d)
 
-  -- where what the enum says gives the enum back, it is determined by what it says
+  -- where what it says gives it back, it is determined by what it says
   pub answer_injective : (says : E → Answer A) → ((x : E) → answered (says x) ≡ x) → (x y : E) → says x ≡ says y → x ≡ y
   answer_injective says back x y e = sym (back x) ∙ ap answered e ∙ back y
 
-pub checked_answer_injective : (x y : Checked) → checked_answer x ≡ checked_answer y → x ≡ y
-unfolding checked_answer answered
-checked_answer_injective = answer_injective (λ t. Accepted) Refused checked_answer back
+-- so the code's answer is determined by what it says
+pub answer_of_injective : {A : Type 0} (x y : Result A Refusal) → answer_of x ≡ answer_of y → x ≡ y
+unfolding answered
+answer_of_injective {A} = answer_injective Ok Err answer_of back
   where
-    back : (x : Checked) → answered (λ t. Accepted) Refused (checked_answer x) ≡ x
-    back Accepted = refl
-    back (Refused r) = refl
+    back : (x : Result A Refusal) → answered Ok Err (answer_of x) ≡ x
+    back (Ok a) = refl
+    back (Err r) = ap Err (refusal_back r)

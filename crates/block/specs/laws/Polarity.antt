@@ -3,7 +3,7 @@ use Rattle.std.specs.Prelude.{◌≡◌, refl, ◌%◌, ◌<◌}
 use Rattle.std.proofs.Common.{sym, ◌∙◌, arith, eq-eqb, ne_eqb}
 use Rattle.std.proofs.Math.Decide.{ℕ_discrete}
 use Rattle.block.specs.Block.{Block}
-use Rattle.block.specs.Polarity.{start_bit, polarity_of}
+use Rattle.block.specs.Polarity.{start_bit, is_inverted, by_inverted, polarity_of}
 use Rattle.block.specs.declared.polarity.Polarity.{Polarity}
 use Rattle.block.specs.declared.polarity.Polarity.TheVariants.{Upright, Inverted}
 
@@ -16,6 +16,11 @@ start_bit_injective Upright Upright e = refl
 start_bit_injective Upright Inverted e = absurd (omega arith)
 start_bit_injective Inverted Upright e = absurd (omega arith)
 start_bit_injective Inverted Inverted e = refl
+
+-- a polarity and whether it is inverted determine each other
+pub inverted_again : (a : Polarity) → by_inverted (is_inverted a) ≡ a
+inverted_again Upright = refl
+inverted_again Inverted = refl
 
 module _ (b : Block) where
   start_of : start_bit (polarity_of b) ≡ b 0 % 2

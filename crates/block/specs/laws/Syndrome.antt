@@ -1,5 +1,5 @@
 -- Laws. Which words are left at a place of a log, and their syndromes.
-use Rattle.std.specs.Prelude.{◌≡◌, true, false, ◌&&◌, List, ℕ, ◌+◌, ◌*◌, ◌<◌, ◌≤◌, length}
+use Rattle.std.specs.Prelude.{◌≡◌, refl, Bool, true, false, cond, Some, None, unwrap_or, ◌&&◌, List, ℕ, ◌+◌, ◌*◌, ◌<◌, ◌≤◌, length}
 use Rattle.std.proofs.Common.{◌∙◌, arith}
 use borrow.Author.Tests.{leb-true, le-leb, lt-leb}
 use Rattle.std.proofs.Math.Dec.{leb}
@@ -7,7 +7,7 @@ use Rattle.bits.specs.Bits.{bits_at}
 use Rattle.finite.specs.laws.Booleans.{and_true}
 use Rattle.parity.specs.Word.{syndrome}
 use Rattle.block.specs.Block.{window}
-use Rattle.block.specs.Syndrome.{has_word, syndrome_at}
+use Rattle.block.specs.Syndrome.{has_word, word_syndrome, syndrome_at}
 
 -- k is a word of a block, and the bytes of its window are left in the log s
 pub record WordLeft (s : List ℕ) (p k : ℕ) : Type 0 where
@@ -46,3 +46,20 @@ module _ (s : List ℕ) (p k : ℕ) where
   pub syndrome_none : has_word s p k ≡ false → syndrome_at s p k ≡ 64
   unfolding syndrome_at
   syndrome_none e = rw e
+
+  pub syndrome_some : WordLeft s p k → word_syndrome s p k ≡ Some (syndrome (window (bits_at s p) k))
+  unfolding word_syndrome
+  syndrome_some w = rw (word_by_room w.first w.last ∙ le-leb (p + (30 * k + 2)) (length s) w.room)
+
+  pub no_syndrome : has_word s p k ≡ false → word_syndrome s p k ≡ None
+  unfolding word_syndrome
+  no_syndrome e = rw e
+
+  -- the number is the syndrome, or 64
+  pub syndrome_number : syndrome_at s p k ≡ unwrap_or (word_syndrome s p k) 64
+  unfolding syndrome_at word_syndrome
+  syndrome_number = go (has_word s p k)
+    where
+      go : (t : Bool) → cond t (syndrome (window (bits_at s p) k)) 64 ≡ unwrap_or (cond t (Some (syndrome (window (bits_at s p) k))) None) 64
+      go true = refl
+      go false = refl

@@ -1,18 +1,16 @@
 -- Laws. What a feed and the questions answer, line by line of the table.
-use Rattle.std.specs.Prelude.{◌≡◌, Bool, true, false, not, List, ℕ}
+use Rattle.std.specs.Prelude.{◌≡◌, Bool, true, false, not, List, ℕ, Option}
 use Rattle.std.proofs.Math.Path.{ap}
-use Rattle.std.proofs.Math.Option.{Option}
 use Rattle.reader.specs.Reader as Reader
 use Rattle.reader.specs.laws.Reader.{read_by_number}
 use Rattle.answer.specs.Answer.{accepted, refused, ByNumber, refuse_if, outcome, when_held}
 use Rattle.answer.specs.laws.ByNumber.{line_by_number, outcome_by_number}
 use Rattle.record.specs.declared.record.Record.{Record}
+use Rattle.orbit_set.specs.declared.held.HeldSubframes.{HeldSubframes}
 use Rattle.record.specs.declared.record.Subframe1.{Subframe1}
 use Rattle.record.specs.declared.record.Subframe2.{Subframe2}
 use Rattle.record.specs.declared.record.Subframe3.{Subframe3}
-use Rattle.orbit_set.specs.Held.{subframe1_in, subframe2_in, subframe3_in}
 use Rattle.orbit_set.specs.Set.{set_in}
-use Rattle.orbit_set.specs.declared.held.HeldSubframes.{HeldSubframes}
 use Rattle.orbit_set.specs.laws.Ways.{set_in_by_number}
 use Rattle.satellite_number.specs.Numbers.{is_satellite}
 use Rattle.pages.specs.laws.Ways as Pages
@@ -56,9 +54,9 @@ module _ (s : List ℕ) (p n : ℕ) where
 module _ (c : Collector) (n : ℕ) where
   -- what a function gives of the subframes that are held of a satellite
   pub of_satellite : {A : Type 0} (f : Option Subframe1 → Option Subframe2 → Option Subframe3 → A) (h : HeldSubframes) → h ≡ (satellite_of c n).subframes
-      → f (subframe1_in h.subframe1) (subframe2_in h.subframe2) (subframe3_in h.subframe3) ≡ f (held_subframe1 c n) (held_subframe2 c n) (held_subframe3 c n)
+      → f h.subframe1 h.subframe2 h.subframe3 ≡ f (held_subframe1 c n) (held_subframe2 c n) (held_subframe3 c n)
   unfolding held_subframe1 held_subframe2 held_subframe3
-  of_satellite f h e = ap (λ (x : HeldSubframes). f (subframe1_in x.subframe1) (subframe2_in x.subframe2) (subframe3_in x.subframe3)) e
+  of_satellite f h e = ap (λ (x : HeldSubframes). f x.subframe1 x.subframe2 x.subframe3) e
 
   pub set_13 : is_satellite n ≡ false → Questions.set c n ≡ refused 13 n
   unfolding Questions.set refuse_if

@@ -1,9 +1,8 @@
 -- Laws. The three demands, sentence by sentence in their order. Each is stated with the definitions that the contracts of the functions use, and is
 -- proved by citing the laws about them.
-use Rattle.std.specs.Prelude.{◌≡◌, true, List, ◌++◌, ◌↔◌, ◌⊎◌, ℕ, ◌+◌, ◌%◌, ◌<◌, ◌≤◌, T, length, get_or, drop}
+use Rattle.std.specs.Prelude.{◌≡◌, true, List, ◌++◌, ◌↔◌, ◌⊎◌, ℕ, ◌+◌, ◌%◌, ◌<◌, ◌≤◌, T, length, get_or, drop, Option, Some, None}
 use Rattle.std.proofs.Math.Path.{refl, ap}
 use Rattle.std.proofs.Common.{sym, ◌∙◌, arith, eq-eqb, ne_eqb}
-use Rattle.std.proofs.Math.Option.{Option, none, some}
 use Rattle.std.proofs.Math.Decide.{ℕ_discrete}
 use Rattle.finite.specs.Tabulate.{tabulate}
 use Rattle.bits.specs.Bits.{Bits, bits_at}
@@ -125,11 +124,11 @@ refusals_utc_page c = refl
 
 -- number 17's detail is the lowest subframe that is not held
 pub refusals_17 : (one : Subframe1) (two : Subframe2) (held2 : Option Subframe2) (held3 : Option Subframe3)
-    → (set_in none held2 held3 ≡ refused 17 1) × (set_in (some one) none held3 ≡ refused 17 2) × (set_in (some one) (some two) none ≡ refused 17 3)
+    → (set_in None held2 held3 ≡ refused 17 1) × (set_in (Some one) None held3 ≡ refused 17 2) × (set_in (Some one) (Some two) None ≡ refused 17 3)
 unfolding when_held set_in
 refusals_17 one two held2 held3 = (refl, refl, refl)
 
-pub refusals_held_set : (o : OrbitSet) → set_in (some o.subframe1) (some o.subframe2) (some o.subframe3) ≡ by_lines (set_lines o) (accepted o)
+pub refusals_held_set : (o : OrbitSet) → set_in (Some o.subframe1) (Some o.subframe2) (Some o.subframe3) ≡ by_lines (set_lines o) (accepted o)
 unfolding by_lines when_held set_in check_set
 refusals_held_set o = refl
 

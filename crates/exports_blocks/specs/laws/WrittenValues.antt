@@ -20,14 +20,15 @@ use Rattle.writer.specs.laws.Writer.{way_12, way_0, write_by_number}
 use Rattle.writer.specs.Writer as Writer
 use Rattle.writer.specs.Writer.{buffer_after}
 use Rattle.told.specs.Told.{told}
-use Rattle.exports_blocks.specs.Told.{polarity_with, reading_told}
+use Rattle.block.specs.Polarity.{by_inverted}
+use Rattle.exports_blocks.specs.Told.{reading_told}
 
 -- what lnav_write answers of the record that the values give, and the buffer that it leaves
 abbrev answers : List ℕ → Answer Record → Answer (Unit {0})
 answers buffer x = and_then x (λ r. Writer.write r buffer)
 
 abbrev leaves : Bool → List ℕ → Answer Record → List ℕ
-leaves inverted buffer = from_value buffer (λ r. buffer_after r (polarity_with inverted) buffer)
+leaves inverted buffer = from_value buffer (λ r. buffer_after r (by_inverted inverted) buffer)
 
 write-zero : (r : Record) (buffer : List ℕ) → number (Writer.write r buffer) ≡ 0 → Writer.write r buffer ≡ accepted tt
 write-zero r buffer e = (is_accepted-true (Writer.write r buffer) ((write_by_number r buffer).0 e)).1
@@ -45,8 +46,8 @@ module _ (kind : ℕ) (v : List ℤ) (l : length v ≡ 25) (buffer : List ℕ) w
   -- values that lnav_write takes, with either polarity, are what lnav_read gives of the buffer, whatever values it was lent
   pub written_read : (inverted : Bool) → length buffer ≤ 65536 → (told (and_then (FromValues.record_with kind v) (λ r. Writer.write r buffer))).number ≡ 0
       → (old : List ℤ)
-      → (reading_told (Reader.read (from_value buffer (λ r. buffer_after r (polarity_with inverted) buffer) (FromValues.record_with kind v)) 0) ≡ record { answer = record { number = 0; detail = 0 }; kind = kind })
-      × (from_value old values_of (Reader.read (from_value buffer (λ r. buffer_after r (polarity_with inverted) buffer) (FromValues.record_with kind v)) 0) ≡ v)
+      → (reading_told (Reader.read (from_value buffer (λ r. buffer_after r (by_inverted inverted) buffer) (FromValues.record_with kind v)) 0) ≡ record { answer = record { number = 0; detail = 0 }; kind = kind })
+      × (from_value old values_of (Reader.read (from_value buffer (λ r. buffer_after r (by_inverted inverted) buffer) (FromValues.record_with kind v)) 0) ≡ v)
   unfolding from_value and_then reading_told told number detail
   written_read inverted short e old = go (FromValues.record_with kind v) refl e
     where
@@ -55,7 +56,7 @@ module _ (kind : ℕ) (v : List ℤ) (l : length v ≡ 25) (buffer : List ℕ) w
           × (from_value old values_of (Reader.read (leaves inverted buffer x) 0) ≡ v)
       go (accepted r) given zero =
           let (is, has, holds) = (values_exactly kind v l r).0 given in
-          let reads = after_reads r (polarity_with inverted) buffer (write-zero r buffer zero) short in
+          let reads = after_reads r (by_inverted inverted) buffer (write-zero r buffer zero) short in
           (ap reading_told reads ∙ λ i. record { answer = record { number = 0; detail = 0 }; kind = is i }, ap (from_value old values_of) reads ∙ has)
       go (refused n d) given zero =
           let eleven : n ≡ 11 = ap number (sym given ∙ only_11 kind v l n d given) in

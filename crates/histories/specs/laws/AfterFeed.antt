@@ -1,8 +1,8 @@
 -- Laws. What one feed leaves in each slot.
-use Rattle.std.specs.Prelude.{◌≡◌, Bool, true, false, cond, not, ◌&&◌, List, eqb, leb, length, set}
+use Rattle.std.specs.Prelude.{◌≡◌, Bool, true, false, cond, not, ◌&&◌, List, eqb, leb, length, set, Option, Some, None, option_map, unwrap_or, option_and_then}
 use Rattle.std.proofs.Math.Path.{refl}
 use Rattle.std.proofs.Common.{ap, ◌∙◌, arith, eqb-true, length-set}
-use Rattle.std.proofs.Math.Option.{Option, none, some, Option-elim, bind, or_else}
+use Rattle.std.specs.Option.{option_or}
 use Prim.Native.Nat.{ℕ, ◌-◌, ◌≤◌}
 use Rattle.std.proofs.lemmas.Bool.{not-false}
 use Rattle.std.proofs.Math.ListN.{get_or}
@@ -24,14 +24,10 @@ use Rattle.reader.specs.laws.Reader.{reads_writable}
 use Rattle.satellite_number.specs.Numbers.{is_satellite}
 use Rattle.satellite_number.specs.laws.Numbers.{bounds}
 use Rattle.pages.specs.Held as Pages
-use Rattle.pages.specs.Held.{empty_entry, empty_pages, almanac_in, utc_in}
+use Rattle.pages.specs.Held.{empty_pages}
 use Rattle.pages.specs.After.{stored, almanac_after, utc_after, pages_after}
 use Rattle.pages.specs.laws.After.{stored_under}
-use Rattle.pages.specs.declared.held.AlmanacEntry.{AlmanacEntry}
-use Rattle.pages.specs.declared.held.HeldAlmanac.TheVariants as HA
-use Rattle.pages.specs.declared.held.HeldUtc.TheVariants as HU
 use Rattle.satellite.specs.Satellite.{empty_satellite, subframes_after, satellite_after}
-use Rattle.satellite.specs.laws.Slots.{slot-after}
 use Rattle.satellite.specs.declared.Satellite.{Satellite}
 use Rattle.collector.specs.Held.{empty_collector, satellite_of, held_almanac, held_utc}
 use Rattle.collector.specs.Feed.{kept, feed, collector_after, fed}
@@ -48,14 +44,14 @@ pub record Sized (c : Collector) : Type 0 where
 
 pub sized_empty : Sized empty_collector
 unfolding empty_collector empty_pages
-sized_empty = record { satellites = length-replicate 32 empty_satellite; almanac = length-replicate 32 empty_entry }
+sized_empty = record { satellites = length-replicate 32 empty_satellite; almanac = length-replicate {A = Option AlmanacPage} 32 None }
 
-sized_stored : (entries : List AlmanacEntry) (page : AlmanacPage) → length (stored entries page) ≡ length entries
+sized_stored : (entries : List (Option AlmanacPage)) (page : AlmanacPage) → length (stored entries page) ≡ length entries
 unfolding stored
 sized_stored entries page = go (is_satellite page.sv_id)
   where
-    go : (b : Bool) → length (cond b (set entries (page.sv_id - 1) (record { page = HA.Latest page })) entries) ≡ length entries
-    go true = length-set entries (page.sv_id - 1) (record { page = HA.Latest page })
+    go : (b : Bool) → length (cond b (set entries (page.sv_id - 1) (Some page)) entries) ≡ length entries
+    go true = length-set entries (page.sv_id - 1) (Some page)
     go false = refl
 
 sized_kept : (c : Collector) (n : ℕ) (r : Record) → Sized c → Sized (kept c n r)
@@ -64,7 +60,7 @@ sized_kept c n r h =
     record {
       satellites = length-set c.satellites (n - 1) (satellite_after (satellite_of c n) r) ∙ h.satellites;
       almanac =
-          either_way (λ (l : List AlmanacEntry). length l ≡ 32) (as_almanac r) c.pages.almanac (stored c.pages.almanac) h.almanac
+          either_way (λ (l : List (Option AlmanacPage)). length l ≡ 32) (as_almanac r) c.pages.almanac (stored c.pages.almanac) h.almanac
           (λ page. sized_stored c.pages.almanac page ∙ h.almanac);
     }
 
@@ -95,8 +91,8 @@ almanac_id r e =
 -- ---- what holds after a feed: as the collector was, or as a record leaves it
 
 module _ (c : Collector) (f : Feed) where
-  by_answer : (P : Option Record → Collector → Type 0) → P none c
-      → ((r : Record) → is_satellite f.satellite ≡ true → of_its_kind r ≡ true → P (some r) (kept c f.satellite r)) → P (brought f) (after c f)
+  by_answer : (P : Option Record → Collector → Type 0) → P None c
+      → ((r : Record) → is_satellite f.satellite ≡ true → of_its_kind r ≡ true → P (Some r) (kept c f.satellite r)) → P (brought f) (after c f)
   unfolding fed collector_after brought value
   by_answer P refusal record-fed = go (feed f.log f.place f.satellite) refl
     where
@@ -109,10 +105,10 @@ module _ (c : Collector) (f : Feed) where
 
   -- what is held of satellite n
   pub satellite-fed : (n : ℕ) → is_satellite n ≡ true → Sized c
-      → satellite_of (after c f) n ≡ Option-elim (brought_for n f) (satellite_of c n) (satellite_after (satellite_of c n))
-  unfolding brought_for Option-elim satellite_of kept
+      → satellite_of (after c f) n ≡ unwrap_or (option_map (satellite_after (satellite_of c n)) (brought_for n f)) (satellite_of c n)
+  unfolding brought_for satellite_of kept
   satellite-fed n here h =
-      by_answer (λ o d. satellite_of d n ≡ Option-elim (cond (eqb m n) o none) row (satellite_after row))
+      by_answer (λ o d. satellite_of d n ≡ unwrap_or (option_map (satellite_after row) (cond (eqb m n) o None)) row)
       (unchanged (eqb m n)) (λ r from k. entry-after c.satellites m n _ empty_satellite (bounds m from).0 (bounds n here).0 (omega (arith, bounds n here, h.satellites)) ∙ stored r (eqb m n) refl)
     where
       m : ℕ
@@ -121,11 +117,11 @@ module _ (c : Collector) (f : Feed) where
       row : Satellite
       row = satellite_of c n
 
-      unchanged : (b : Bool) → row ≡ Option-elim (cond {A = Option Record} b none none) row (satellite_after row)
+      unchanged : (b : Bool) → row ≡ unwrap_or (option_map (satellite_after row) (cond {A = Option Record} b None None)) row
       unchanged true = refl
       unchanged false = refl
 
-      stored : (r : Record) (b : Bool) → eqb m n ≡ b → cond b (satellite_after (satellite_of c m) r) row ≡ Option-elim (cond b (some r) none) row (satellite_after row)
+      stored : (r : Record) (b : Bool) → eqb m n ≡ b → cond b (satellite_after (satellite_of c m) r) row ≡ unwrap_or (option_map (satellite_after row) (cond b (Some r) None)) row
       stored r true e = ap (λ (k : ℕ). satellite_after (satellite_of c k) r) (eqb-true m n e)
       stored r false e = refl
 
@@ -137,45 +133,44 @@ module _ (c : Collector) (f : Feed) where
       (λ r from k. get_or-set_other c.satellites (f.satellite - 1) (n - 1) _ empty_satellite (λ at. other (omega (arith, bounds f.satellite from, at))))
 
   -- what is held for SV ID n
-  pub almanac-fed : (n : ℕ) → is_satellite n ≡ true → Sized c → held_almanac (after c f) n ≡ or_else (almanac_for n f) (held_almanac c n)
-  unfolding almanac_for with_id bind or_else held_almanac Pages.held_almanac almanac_in kept pages_after almanac_after as_almanac by_kind Option-elim
+  pub almanac-fed : (n : ℕ) → is_satellite n ≡ true → Sized c → held_almanac (after c f) n ≡ option_or (almanac_for n f) (held_almanac c n)
+  unfolding almanac_for with_id held_almanac Pages.held_almanac kept pages_after almanac_after as_almanac by_kind
   almanac-fed n here h =
-      by_answer (λ o d. held_almanac d n ≡ or_else (bind (bind o as_almanac) (with_id n)) (held_almanac c n)) refl (λ r from k. held_after r k)
+      by_answer (λ o d. held_almanac d n ≡ option_or (option_and_then (with_id n) (option_and_then as_almanac o)) (held_almanac c n)) refl (λ r from k. held_after r k)
     where
-      old : AlmanacEntry
-      old = get_or c.pages.almanac (n - 1) empty_entry
+      old : Option AlmanacPage
+      old = get_or c.pages.almanac (n - 1) None
 
-      by : (page : AlmanacPage) (b : Bool) → almanac_in (cond b (record { page = HA.Latest page }) old).page ≡ or_else (cond b (some page) none) (almanac_in old.page)
+      by : (page : AlmanacPage) (b : Bool) → cond b (Some page) old ≡ option_or (cond b (Some page) None) old
       by page true = refl
       by page false = refl
 
-      held_after : (r : Record) → of_its_kind r ≡ true → held_almanac (kept c f.satellite r) n ≡ or_else (bind (as_almanac r) (with_id n)) (held_almanac c n)
+      held_after : (r : Record) → of_its_kind r ≡ true → held_almanac (kept c f.satellite r) n ≡ option_or (option_and_then (with_id n) (as_almanac r)) (held_almanac c n)
       held_after (R.Subframe1 r) k = refl
       held_after (R.Subframe2 r) k = refl
       held_after (R.Subframe3 r) k = refl
       held_after (R.Almanac page) k =
-          ap (λ (l : List AlmanacEntry). almanac_in (get_or l (n - 1) empty_entry).page) (stored_under c.pages.almanac page (almanac_id page k))
-          ∙ ap (λ (x : AlmanacEntry). almanac_in x.page)
-          (entry-after c.pages.almanac page.sv_id n (record { page = HA.Latest page }) empty_entry (bounds page.sv_id (almanac_id page k)).0 (bounds n here).0 (omega (arith, bounds n here, h.almanac)))
+          ap (λ (l : List (Option AlmanacPage)). get_or l (n - 1) None) (stored_under c.pages.almanac page (almanac_id page k))
+          ∙ entry-after c.pages.almanac page.sv_id n (Some page) None (bounds page.sv_id (almanac_id page k)).0 (bounds n here).0 (omega (arith, bounds n here, h.almanac))
           ∙ by page (eqb page.sv_id n)
       held_after (R.Utc r) k = refl
       held_after (R.Other r) k = refl
 
   -- the UTC page
-  pub utc_fed : held_utc (after c f) ≡ or_else (utc_from f) (held_utc c)
-  unfolding utc_from bind or_else held_utc Pages.held_utc kept pages_after utc_after utc_in
-  utc_fed = by_answer (λ o d. held_utc d ≡ or_else (bind o as_utc) (held_utc c)) refl (λ r from k. slot-after utc_in HU.Latest (λ page. refl) (as_utc r) c.pages.utc)
+  pub utc_fed : held_utc (after c f) ≡ option_or (utc_from f) (held_utc c)
+  unfolding utc_from held_utc Pages.held_utc kept pages_after utc_after
+  utc_fed = by_answer (λ o d. held_utc d ≡ option_or (option_and_then as_utc o) (held_utc c)) refl (λ r from k. refl)
 
 -- ---- other pages are accepted and not kept
 
 -- a page leaves what is held of the satellite as it was
-kept_page : (c : Collector) (n : ℕ) (r : Record) → as_subframe1 r ≡ none → as_subframe2 r ≡ none → as_subframe3 r ≡ none
+kept_page : (c : Collector) (n : ℕ) (r : Record) → as_subframe1 r ≡ None → as_subframe2 r ≡ None → as_subframe3 r ≡ None
     → kept c n r ≡ record { satellites = c.satellites; pages = pages_after c.pages r }
-unfolding kept satellite_of satellite_after subframes_after Option-elim
+unfolding kept satellite_of satellite_after subframes_after
 kept_page c n r no-1 no-2 no-3 =
     rw (no-1, no-2, no-3)
     (ap (λ (l : List Satellite). record { satellites = l; pages = pages_after c.pages r }) (set-get_or c.satellites (n - 1) empty_satellite))
 
 pub other_fed : (c : Collector) (s : List ℕ) (p n : ℕ) (page : OtherPage) → feed s p n ≡ accepted (R.Other page) → fed c s p n ≡ c
-unfolding pages_after almanac_after utc_after as_subframe1 as_subframe2 as_subframe3 as_almanac as_utc by_kind Option-elim
+unfolding pages_after almanac_after utc_after as_subframe1 as_subframe2 as_subframe3 as_almanac as_utc by_kind
 other_fed c s p n page e = fed-accepted s p n c (R.Other page) e ∙ kept_page c n (R.Other page) refl refl refl

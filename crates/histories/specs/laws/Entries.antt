@@ -1,14 +1,12 @@
 -- Laws. A value that a record may change, and an entry of a list that is stored to by its number.
-use Rattle.std.specs.Prelude.{◌≡◌, cond, List, ℕ, ◌-◌, ◌≤◌, eqb, length, get_or, set}
+use Rattle.std.specs.Prelude.{◌≡◌, cond, List, ℕ, ◌-◌, ◌≤◌, eqb, length, get_or, set, Option, Some, None, option_map, unwrap_or}
 use Rattle.std.proofs.Common.{sym, ap, ◌∙◌, arith, eq-eqb, ne_eqb, get_or-set_same, get_or-set_other}
-use Rattle.std.proofs.Math.Option.{Option, none, some, Option-elim}
 use Rattle.std.proofs.Math.Decide.{ℕ_discrete}
 
 -- what holds of a value as it was, and as a record leaves it
-pub either_way : {A B : Type 0} (P : B → Type 0) (o : Option A) (b : B) (f : A → B) → P b → ((a : A) → P (f a)) → P (Option-elim o b f)
-unfolding Option-elim
-either_way P none b f p q = p
-either_way P (some a) b f p q = q a
+pub either_way : {A B : Type 0} (P : B → Type 0) (o : Option A) (b : B) (f : A → B) → P b → ((a : A) → P (f a)) → P (unwrap_or (option_map f o) b)
+either_way P None b f p q = p
+either_way P (Some a) b f p q = q a
 
 -- entries numbered from 1: entry n after a store to entry m
 pub entry-after : {A : Type 0} (l : List A) (m n : ℕ) (x d : A) → 1 ≤ m → 1 ≤ n → n ≤ length l

@@ -1,12 +1,13 @@
 -- Laws. The week difference, and the full leap week: near the given week, with WNLSF's eight bits.
 use Rattle.std.specs.Prelude.{◌≡◌, ℕ, zero, suc, ◌+◌, ◌-◌, ◌%◌, ◌^◌, ◌<◌, ◌≤◌, Bool, true, false, cond, ℤ, pos, negsuc, ◌+ℤ◌, ◌-ℤ◌, nat_lt, unsigned_abs, refl}
-use Rattle.std.proofs.Common.{sym, ◌∙◌, lit<}
+use Rattle.std.proofs.Common.{sym, ◌∙◌, lit<, w8}
 use Rattle.std.proofs.Math.Path.{ap, subst}
 use Rattle.std.proofs.Math.Decide.{dec_lt}
 use native.Mathlib.Omega.{arith}
 use borrow.Author.Tests.{ltb-true, ltb-false, eqb-false}
 use Rattle.std.proofs.Math.IntN.{sub_ℕ, +ℤ_comm, +ℤ-neg_ℤ_cancel}
 use Rattle.std.specs.Int.Signed.{mag, nat_abs-le}
+use Rattle.std.specs.Int.{cast_signed}
 use Rattle.layout.specs.Field.{half, signed, is_signed}
 use Rattle.layout.proofs.laws.Signs.{signed_low, signed_high, signed-within}
 use Rattle.integers.specs.Whole.{eq_z, modulo}
@@ -42,6 +43,20 @@ signed-sum w n h = by_half (dec_lt n 128)
 -- the byte that the week's low eight bits, added to, wrap back to WNLSF's low eight bits
 pub wraps_back : (d n l : ℕ) → d < 256 → l < 256 → (d + l) % 256 ≡ n % 256 → d ≡ modulo (pos n -ℤ pos l) 256
 wraps_back d n l h k e = omega (arith, byte_difference n l k)
+
+-- the bits of a byte, read as a signed number
+signed_byte : (n : ℕ) → n < 256 → cast_signed w8 n ≡ signed 8 n
+unfolding signed
+signed_byte n h =
+    let same : 256 - suc n ≡ 255 - n = omega arith in
+    ap (λ (k : ℕ). cond (nat_lt n 128) (pos n) (negsuc k)) same
+
+-- the difference of the low eight bits, as the machine wraps it
+pub wrapped_difference : (wnlsf week : ℕ) → cast_signed w8 ((wnlsf % 256 + (256 - week % 256)) % 256) ≡ week_difference wnlsf week
+unfolding week_difference
+wrapped_difference wnlsf week =
+    let d = (wnlsf % 256 + (256 - week % 256)) % 256 in
+    signed_byte d (omega arith) ∙ ap (signed 8) (wraps_back d wnlsf (week % 256) (omega arith) (omega arith) (omega arith))
 
 module _ (wnlsf week : ℕ) where
   -- the leap week less the week is the week difference

@@ -1,16 +1,20 @@
 -- Laws. What `same` means, runs place by place, and that a text has no more runs than bytes.
-use Rattle.std.specs.Prelude.{◌≡◌, refl, Bool, true, false, cond, ◌&&◌, ◌↔◌, ℕ, zero, suc, ◌+◌, ◌-◌, ◌<◌, ◌≤◌, eqb, get_or}
+use Rattle.std.specs.Prelude.{◌≡◌, refl, Bool, true, false, cond, ◌&&◌, ◌↔◌, ℕ, zero, suc, ◌+◌, ◌-◌, ◌<◌, ◌≤◌, eqb, get_or, not, Option, Some, None, MatchOption, unwrap_or}
 use Rattle.std.proofs.Math.Path.{sym, ap}
-use Rattle.std.proofs.Common.{ap₂, ◌∙◌, add-one, arith, lt-ltb, le-leb, eq-eqb, ne_eqb, eqb-true, length-drop, drop_of_length-le, drop-drop}
+use Rattle.std.proofs.Common.{ap₂, ◌∙◌, add-one, arith, lt-ltb, le-ltb, le-leb, eq-eqb, ne_eqb, eqb-true, length-drop, drop_of_length-le, drop-drop}
 use Rattle.std.proofs.lemmas.Bool.{false≢true, lt-leb}
 use mathlib.Core.List.{List, [], ◌∷◌}
 use Rattle.std.proofs.Math.Decide.{dec_lt}
 use Rattle.std.proofs.Math.Dec.{leb, ltb}
 use Rattle.std.proofs.Math.ListN.{length, take, drop}
 use Rattle.std.proofs.Math.Seq.{drop-cons}
+use mathlib.Core.Bool.{beq}
+use borrow.Author.Tests.{not-true, not-false}
+use lib.Pointwise.{pointwise}
 use Rattle.finite.specs.laws.Booleans.{and_true}
+use Rattle.finite.specs.laws.First.{first-here, first_none}
 use Rattle.lines.specs.internal.Side.{side, after}
-use Rattle.lines.specs.Words.{leading, rest, from_run, run, word, same, name_at}
+use Rattle.lines.specs.Words.{leading, rest, from_run, run, word, same, name_at, named, named_line}
 
 -- ---- equal texts
 
@@ -30,6 +34,14 @@ same-equal (x ∷ a) (y ∷ b) e =
 
 pub same_true : (a b : List ℕ) → (same a b ≡ true) ↔ (a ≡ b)
 same_true a b = (same-equal a b, λ e. ap (λ (t : List ℕ). same a t) (sym e) ∙ same_self a)
+
+-- what `==` computes
+pub same_pointwise : (a b : List ℕ) → same a b ≡ pointwise eqb a b
+unfolding same
+same_pointwise [] [] = refl
+same_pointwise [] (y ∷ b) = refl
+same_pointwise (x ∷ a) [] = refl
+same_pointwise (x ∷ a) (y ∷ b) = ap (λ (t : Bool). eqb x y && t) (same_pointwise a b)
 
 -- texts of different length are not the same
 pub same_length : (a b : List ℕ) → (length a ≡ length b → ⊥) → same a b ≡ false
@@ -84,6 +96,35 @@ leading-whole f (x ∷ s) = go (f x) (leading-whole f s)
     go : (t : Bool) → take (length (leading f s)) s ≡ leading f s → take (length (cond t (x ∷ leading f s) [])) (x ∷ s) ≡ cond t (x ∷ leading f s) []
     go true h = ap (λ (l : List ℕ). x ∷ l) h
     go false h = refl
+
+-- ---- where the bytes of a side end, place by place
+
+-- the side of a byte, as the code tests it
+tested : (limit : ℕ) (above : Bool) (x : ℕ) → side limit above x ≡ beq (ltb limit x) above
+unfolding side
+tested limit true x = grind arith
+tested limit false x = grind arith
+
+module _ (s : List ℕ) (limit : ℕ) (above : Bool) (at : ℕ) where
+  pub after_stop : at < length s → not (beq (ltb limit (get_or s at 0)) above) ≡ true → after s limit above at ≡ at
+  unfolding after
+  after_stop h e =
+      let none = ap length (leading_stop (side limit above) s at h (tested limit above _ ∙ not-true _ e)) in
+      omega arith
+
+  pub after_next : at < length s → not (beq (ltb limit (get_or s at 0)) above) ≡ false → after s limit above (at + 1) ≡ after s limit above at
+  unfolding after
+  after_next h e =
+      let one = ap length (leading_next (side limit above) s at h (tested limit above _ ∙ not-false _ e)) in
+      omega arith
+
+  pub after_end : length s ≤ at → after s limit above at ≡ at
+  unfolding after
+  after_end h =
+      let none = ap length (leading_end (side limit above) s at h) in
+      omega arith
+
+pub ruleset after_steps = (after_stop, after_next, after_end)
 
 -- ---- a run from a place on, by the places where it starts and ends
 
@@ -144,3 +185,24 @@ run_past s limit (suc i) h = run_past (rest (λ y. ltb limit y) (from_run s limi
 pub name_past : (table : List ℕ) (i : ℕ) → length table ≤ i → name_at table i ≡ []
 unfolding name_at
 name_past table i h = ap (λ (t : List ℕ). word t 0) (run_past table 10 i h) ∙ run_past [] 32 0 (omega arith)
+
+-- a search from 0 on finds the line that `named` gives
+module _ (table name : List ℕ) (first count : ℕ) where
+  -- the least line with the name, or none below count
+  abbrev pub IsNamed : Option ℕ → Type 0
+  IsNamed r =
+      MatchOption r ((k : ℕ) → 0 ≤ k → k < count → same (name_at table (first + k)) name ≡ false)
+      (λ i. (0 ≤ i) × (i < count) × (same (name_at table (first + i)) name ≡ true) × ((k : ℕ) → 0 ≤ k → k < i → same (name_at table (first + k)) name ≡ false))
+
+  pub named_number : (r : Option ℕ) → IsNamed r → unwrap_or r count ≡ named table name first count
+  unfolding named
+  named_number None h =
+      let all = first_none (λ (i : ℕ). same (name_at table (first + i)) name) 0 count (λ k p q. h k (omega arith) (omega arith)) in
+      omega (arith, all)
+  named_number (Some i) h =
+      sym (first-here (λ (i : ℕ). same (name_at table (first + i)) name) 0 count i (omega arith) (omega (arith, h.1)) (λ k p q. h.3 k (omega arith) q) h.2)
+
+  pub named_by_cases : (r : Option ℕ) → IsNamed r → r ≡ named_line table name first count
+  unfolding named_line
+  named_by_cases None h = let n = named_number None h in rw (le-ltb (named table name first count) count (omega arith))
+  named_by_cases (Some i) h = rw (sym (named_number (Some i) h), lt-ltb i count h.1)

@@ -16,16 +16,14 @@ use Rattle.text.specs.Text.{ascii, decimal, tabbed}
 use Rattle.text.specs.laws.Text.{decimal-short, tabbed-last, tabbed_more}
 use Rattle.answer.specs.Answer.{accepted, refused, ByNumber, refuse_if, from_value}
 use Rattle.answer.specs.laws.ByNumber.{accepted_by_number, line_by_number}
-use Rattle.answer.specs.laws.Lines.{answered, answer_injective}
 use Rattle.parity.specs.Word.{source_bit}
 use Rattle.block.specs.Block.{Block, window, field, count, subframe_number}
 use Rattle.block_check.specs.Check.{accepted_at}
 use Rattle.block.specs.Polarity.{polarity_of}
 use Rattle.search.proofs.laws.Search.{way_1}
 use Rattle.listing_text.specs.Listing as Listing
-use Rattle.listing_text.specs.Listing.{walk_in, walk, letter, line_with, line, lines, header, listing, buffer_after, listed_answer}
+use Rattle.listing_text.specs.Listing.{walk_in, walk, letter, line_with, line, lines, header, listing, buffer_after}
 use Rattle.listing_text.proofs.laws.Searched.{walk_none}
-use Rattle.listing_text.specs.declared.listing.Listed.{Listed}
 
 line_with-length : (p n c x : ℕ) → length (line_with p n c x) ≡ length (decimal p) + length (decimal n) + length (decimal c) + 5
 unfolding line_with
@@ -104,11 +102,6 @@ module _ (s : List ℕ) where
     unfolding buffer_after from_value
     after-listing n e = rw e
 
--- the answer determines the enum
-pub listed_answer_injective : (x y : Listed) → listed_answer x ≡ listed_answer y → x ≡ y
-unfolding listed_answer answered
-listed_answer_injective = answer_injective Listed.Length Listed.Refused listed_answer back
-  where
-    back : (x : Listed) → answered Listed.Length Listed.Refused (listed_answer x) ≡ x
-    back (Listed.Length n) = refl
-    back (Listed.Refused r) = refl
+    -- an overlong log
+    pub after_overlong : 65536 < length s → buffer_after s buffer ≡ buffer
+    after_overlong h = after_refusal 1 (length s) (list_refuses h)

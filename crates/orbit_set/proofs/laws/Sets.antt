@@ -1,7 +1,6 @@
 -- Laws. Demand 2, the orbit set: it is given exactly where the three subframes are held, share one issue and show the first health bit clear.
-use Rattle.std.specs.Prelude.{◌≡◌, refl, false, not, ◌↔◌, eqb}
+use Rattle.std.specs.Prelude.{◌≡◌, refl, false, not, ◌↔◌, eqb, Option, Some, None}
 use Rattle.std.proofs.Common.{subst, ◌∙◌, arith}
-use Rattle.std.proofs.Math.Option.{Option, none, some}
 use borrow.Author.Tests.{eq-eqb, eqb-true, eqb-false, not-false}
 use Rattle.bits.specs.Bits.{unpack}
 use Rattle.finite.specs.laws.Booleans.{and_true}
@@ -36,16 +35,16 @@ module _ (o q : OrbitSet) (e : check_set o ≡ accepted q) where
   unfolding first_health_bit unpack
   clear = omega (arith, eqb-false (first_health_bit o.subframe1) 1 lines.1)
 
-  passed : AreSet (some o.subframe1) (some o.subframe2) (some o.subframe3) q
-  passed = subst (AreSet (some o.subframe1) (some o.subframe2) (some o.subframe3)) same
+  passed : AreSet (Some o.subframe1) (Some o.subframe2) (Some o.subframe3) q
+  passed = subst (AreSet (Some o.subframe1) (Some o.subframe2) (Some o.subframe3)) same
       (record { held_1 = refl; held_2 = refl; held_3 = refl; issue_2 = issues.0; issue_3 = issues.1; health_clear = clear })
 
 are_set : (held1 : Option Subframe1) (held2 : Option Subframe2) (held3 : Option Subframe3) (o : OrbitSet) → set_in held1 held2 held3 ≡ accepted o → AreSet held1 held2 held3 o
 unfolding set_in when_held
-are_set none held2 held3 o e = absurd (refused_not 17 1 o e)
-are_set (some one) none held3 o e = absurd (refused_not 17 2 o e)
-are_set (some one) (some two) none o e = absurd (refused_not 17 3 o e)
-are_set (some one) (some two) (some three) o e = passed (record { subframe1 = one; subframe2 = two; subframe3 = three }) o e
+are_set None held2 held3 o e = absurd (refused_not 17 1 o e)
+are_set (Some one) None held3 o e = absurd (refused_not 17 2 o e)
+are_set (Some one) (Some two) None o e = absurd (refused_not 17 3 o e)
+are_set (Some one) (Some two) (Some three) o e = passed (record { subframe1 = one; subframe2 = two; subframe3 = three }) o e
 
 set_of : (held1 : Option Subframe1) (held2 : Option Subframe2) (held3 : Option Subframe3) (o : OrbitSet) → AreSet held1 held2 held3 o → set_in held1 held2 held3 ≡ accepted o
 unfolding set_in when_held one_issue

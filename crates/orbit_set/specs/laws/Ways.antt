@@ -1,6 +1,5 @@
 -- Laws. What the check of a set answers, line by line of the table.
-use Rattle.std.specs.Prelude.{◌≡◌, true, false}
-use Rattle.std.proofs.Math.Option.{Option}
+use Rattle.std.specs.Prelude.{◌≡◌, true, false, Option}
 use borrow.Author.Tests.{eq-eqb, ne_eqb}
 use Rattle.answer.specs.Answer.{accepted, refused, ByNumber, refuse_if}
 use Rattle.answer.specs.laws.ByNumber.{accepted_by_number, line_by_number, held_by_number}

@@ -1,5 +1,5 @@
 -- Laws. The reader refuses exactly as the block check does, and what it reads the writer takes.
-use Rattle.std.specs.Prelude.{◌≡◌, refl, true, List, ℕ}
+use Rattle.std.specs.Prelude.{◌≡◌, true, List, ℕ}
 use Rattle.std.proofs.Math.Path.{ap}
 use Rattle.std.proofs.Common.{◌∙◌, arith}
 use Rattle.bits.specs.Bits.{bits_at}
@@ -7,7 +7,7 @@ use Rattle.layout.specs.Field.{read_field}
 use Rattle.layout.specs.Layout.{decode}
 use Rattle.answer.specs.Answer.{Answer, accepted, refused, ByNumber, when_accepted}
 use Rattle.answer.specs.laws.ByNumber.{when_by_number}
-use Rattle.answer.specs.laws.Lines.{when_refused, when_accepts, answered, answer_injective}
+use Rattle.answer.specs.laws.Lines.{when_refused, when_accepts}
 use Rattle.block_check.specs.Check as Check
 use Rattle.block.specs.Block.{Block, count, subframe_number, source}
 use Rattle.block_check.specs.Compare.{Accepted}
@@ -19,18 +19,6 @@ use Rattle.record.proofs.laws.Held.{record_writable}
 use Rattle.record.specs.Writable.{writable}
 use Rattle.record.specs.declared.record.Record.{Record}
 use Rattle.reader.specs.Reader as Reader
-use Rattle.reader.specs.Reader.{reading_answer}
-use Rattle.reader.specs.declared.reader.Reading.{Reading}
-use Rattle.reader.specs.declared.reader.Reading.TheVariants as R
-
--- the answer determines the enum
-pub reading_answer_injective : (x y : Reading) → reading_answer x ≡ reading_answer y → x ≡ y
-unfolding reading_answer answered
-reading_answer_injective = answer_injective R.Accepted R.Refused reading_answer back
-  where
-    back : (x : Reading) → answered R.Accepted R.Refused (reading_answer x) ≡ x
-    back (R.Accepted r) = refl
-    back (R.Refused r) = refl
 
 module _ (s : List ℕ) (p : ℕ) where
   -- an accepted block reads as the record of its source bits

@@ -2,7 +2,7 @@
 use Rattle.std.specs.Prelude.{◌≡◌, List, ℕ}
 use Rattle.std.proofs.Common.{sym, ◌∙◌}
 use Rattle.std.proofs.Math.Path.{ap}
-use Rattle.std.proofs.Math.Option.{some-injective}
+use Rattle.std.proofs.lemmas.Option.{same_Some}
 use Rattle.bits.specs.Bits.{bits_at, pack}
 use Rattle.layout.specs.Field.{read_field}
 use Rattle.layout.specs.Layout.{decode}
@@ -30,7 +30,7 @@ module _ (s : List ℕ) where
   module _ (r : Subframe1) (e : record_of s ≡ R.Subframe1 r) where
     made_1 : r ≡ subframe1_of (header_in s) (decode subframe1_fields 48 s)
     unfolding by_kind as_subframe1
-    made_1 = some-injective _ _ (ap as_subframe1 (sym e ∙ made_of K.Subframe1 (ap kind_of e)))
+    made_1 = same_Some _ _ (ap as_subframe1 (sym e ∙ made_of K.Subframe1 (ap kind_of e)))
 
     -- bits 13 to 16 of word 3
     pub ura_placed : r.ura ≡ pack 4 (bits_at s (index_of 3 13))
@@ -50,9 +50,9 @@ module _ (s : List ℕ) where
   -- bits 1 to 8 of word 3 of subframe 2
   pub iode_2_placed : (r : Subframe2) → record_of s ≡ R.Subframe2 r → r.iode ≡ pack 8 (bits_at s (index_of 3 1))
   unfolding by_kind as_subframe2 decode read_field
-  iode_2_placed r e = ap (λ (x : Subframe2). x.iode) (some-injective _ _ (ap as_subframe2 (sym e ∙ made_of K.Subframe2 (ap kind_of e))))
+  iode_2_placed r e = ap (λ (x : Subframe2). x.iode) (same_Some _ _ (ap as_subframe2 (sym e ∙ made_of K.Subframe2 (ap kind_of e))))
 
   -- bits 1 to 8 of word 10 of subframe 3
   pub iode_3_placed : (r : Subframe3) → record_of s ≡ R.Subframe3 r → r.iode ≡ pack 8 (bits_at s (index_of 10 1))
   unfolding by_kind as_subframe3 decode read_field
-  iode_3_placed r e = ap (λ (x : Subframe3). x.iode) (some-injective _ _ (ap as_subframe3 (sym e ∙ made_of K.Subframe3 (ap kind_of e))))
+  iode_3_placed r e = ap (λ (x : Subframe3). x.iode) (same_Some _ _ (ap as_subframe3 (sym e ∙ made_of K.Subframe3 (ap kind_of e))))

@@ -1,6 +1,6 @@
 -- Laws. The search place by place, and what its answers mean.
 use Rattle.std.proofs.Math.Path.{◌≡◌, sym, ap}
-use Rattle.std.specs.Prelude.{refl, true, false, List, ◌↔◌, ℕ, suc, ◌+◌, ◌-◌, ◌<◌, ◌≤◌, take, drop}
+use Rattle.std.specs.Prelude.{true, false, Result, Ok, List, ◌↔◌, ℕ, suc, ◌+◌, ◌-◌, ◌<◌, ◌≤◌, take, drop}
 use Rattle.std.proofs.Common.{subst, ◌∙◌, zero-add}
 use Rattle.std.proofs.Math.Bool.{false≢true}
 use Rattle.std.proofs.Math.Decide.{dec_lt}
@@ -12,26 +12,17 @@ use Rattle.std.proofs.Math.Seq.{length-take-le, get_or-take, get_or-drop}
 use Rattle.bits.specs.Bits.{bits_at}
 use Rattle.finite.specs.First.{first_from}
 use Rattle.finite.specs.laws.First.{first-from, first_taken, first-before, first-here}
-use Rattle.answer.specs.Answer.{Answer, accepted, refused, number, ByNumber, refuse_if}
+use Rattle.answer.specs.Answer.{Answer, accepted, refused, number, ByNumber, refuse_if, answer_of}
+use Rattle.answer.specs.declared.refusal.Refusal.{Refusal}
 use Rattle.answer.specs.laws.ByNumber.{accepted_by_number, line_by_number}
-use Rattle.answer.specs.laws.Lines.{refused_not, accepted_injective, answered, answer_injective}
+use Rattle.answer.specs.laws.Lines.{refused_not, accepted_injective}
 use Rattle.block_check.specs.Check.{accepted_at}
 use Rattle.block_check.specs.Compare.{Accepted, Equal}
 use Rattle.block_check.specs.laws.Answers.{accepted_at-true, accepted_at-false}
 use Rattle.block_check.proofs.laws.Acceptance.{acceptance}
 use Rattle.block_check.proofs.laws.Copies.{copy_accepted}
 use Rattle.search.specs.Search as Search
-use Rattle.search.specs.Search.{found_answer, first_place, block_part, part_of, FirstAccepted, NoneFrom, IsPart}
-use Rattle.search.specs.declared.place.Found.{Found}
-
--- the answer determines the enum
-pub found_answer_injective : (x y : Found) → found_answer x ≡ found_answer y → x ≡ y
-unfolding found_answer answered
-found_answer_injective = answer_injective Found.At Found.Refused found_answer back
-  where
-    back : (x : Found) → answered Found.At Found.Refused (found_answer x) ≡ x
-    back (Found.At q) = refl
-    back (Found.Refused r) = refl
+use Rattle.search.specs.Search.{first_place, block_part, part_of, FirstAccepted, NoneFrom, IsPart}
 
 module _ (s : List ℕ) where
   -- ---- one place: past the end, accepted, refused
@@ -143,12 +134,11 @@ module _ (s : List ℕ) where
     found_room q e = (room q (given q e).is_accepted).1
 
     -- the place that the code gives
-    pub found_at : {r : Found} {q : ℕ} → found_answer r ≡ Search.find s p → r ≡ Found.At q → Search.find s p ≡ accepted q
-    unfolding found_answer
-    found_at says at = sym says ∙ ap found_answer at
+    pub found_at : {r : Result ℕ Refusal} {q : ℕ} → answer_of r ≡ Search.find s p → r ≡ Ok q → Search.find s p ≡ accepted q
+    found_at says at = sym says ∙ ap answer_of at
 
     -- the block there stands in the log, at or after p
-    pub found_inside : {r : Found} {q : ℕ} → found_answer r ≡ Search.find s p → r ≡ Found.At q → (p ≤ q) × (q + 302 ≤ length s)
+    pub found_inside : {r : Result ℕ Refusal} {q : ℕ} → answer_of r ≡ Search.find s p → r ≡ Ok q → (p ≤ q) × (q + 302 ≤ length s)
     found_inside {r} {q} says at = ((given q (found_at says at)).after, found_room q (found_at says at))
 
 -- ---- the part

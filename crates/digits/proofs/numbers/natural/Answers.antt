@@ -1,31 +1,34 @@
 -- `natural` meets its contract.
 use Rattle.std.proofs.Common.{◌≡◌, ◌+◌, ℕ, ◌<◌, List, [], ◌∷◌, get_or, drop, length, sym, ap, ◌∙◌, arith}
+use Rattle.std.specs.Prelude.{Option}
 use Rattle.digits.specs.Numbers as Numbers
 use Rattle.digits.specs.internal.Digits.{continued, following}
 use Rattle.digits.proofs.laws.Numbers.{natural_empty, continued-first, continued_at, continued_past, continued-below}
-use Rattle.digits.specs.declared.answers.Number.{Number}
 use Rattle.digits.proofs.numbers.natural.Goals as goal
 
 -- what the text gives, by the answer for the next byte
-next : (text : List ℕ) (i value : ℕ) (r : Number) → i < length text → continued value (drop i text) ≡ Numbers.natural text
+next : (text : List ℕ) (i value : ℕ) (r : Option ℕ) → i < length text → continued value (drop i text) ≡ Numbers.natural text
     → r ≡ continued value (get_or text i 0 ∷ []) → following r (drop (i + 1) text) ≡ Numbers.natural text
 next text i value r h kept e =
-    ap (λ (y : Number). following y (drop (i + 1) text)) e ∙ sym (continued_at value text i h) ∙ kept
+    ap (λ (y : Option ℕ). following y (drop (i + 1) text)) e ∙ sym (continued_at value text i h) ∙ kept
 
-pub returns-then-text-eq0 : goal.returns-then-text-eq0
-returns-then-text-eq0 c = sym (natural_empty _ c.if-text-eq0.true)
+pub returns-then-is_empty : goal.returns-then-is_empty
+returns-then-is_empty c = grind (arith, natural_empty)
 
-pub loop-i-init : goal.loop-i-init
-loop-i-init c = (omega arith, continued-first _ (omega arith))
+pub loop-byte-init : goal.loop-byte-init
+loop-byte-init c = grind (arith, continued-first)
 
-pub returns-in_default : goal.returns-in_default
+pub returns-in_err-value : goal.returns-in_err-value
 unfolding following
-returns-in_default c = next c.args.text.now c.loop-i.i c.loop-i.value _ (omega arith) c.loop-i.invariant.1 c.in_default.ensures
+returns-in_err-value c =
+    c.from_residual.ensures ∙ next c.args.text.now c.loop-byte.byte-index c.loop-byte.value _ (omega arith) c.loop-byte.invariant.rest c.in_err-value.ensures
 
-pub loop-i-preserved : goal.loop-i-preserved
+pub loop-byte-preserved : goal.loop-byte-preserved
 unfolding following
-loop-i-preserved c =
-    (continued-below _ _ _ (sym c.in-Value.ensures), next c.args.text.now c.loop-i.i c.loop-i.value _ (omega arith) c.loop-i.invariant.1 c.in-Value.ensures)
+loop-byte-preserved c = record {
+  below = continued-below _ _ _ (sym c.in_ok-value.ensures);
+  rest = next c.args.text.now c.loop-byte.byte-index c.loop-byte.value _ (omega arith) c.loop-byte.invariant.rest c.in_ok-value.ensures;
+}
 
 pub returns : goal.returns
-returns c = sym (continued_past c.loop-i.value c.args.text.now c.loop-i.i c.loop-i.invariant.0 (omega arith)) ∙ c.loop-i.invariant.1
+returns c = sym (continued_past c.loop-byte.value c.args.text.now c.loop-byte.byte-index c.loop-byte.invariant.below (omega arith)) ∙ c.loop-byte.invariant.rest

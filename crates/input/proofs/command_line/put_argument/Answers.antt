@@ -1,10 +1,9 @@
 -- What is put ends in the buffer.
-use Rattle.std.proofs.Common.{arith}
-use Rattle.text.specs.laws.Put.{put_inside}
+use Rattle.text.specs.laws.Cursor.{puts_inside}
 use Rattle.input.proofs.command_line.put_argument.Goals as goal
+use Rattle.input.proofs.command_line.put_argument.Goals.{then-at-gt0, else-at-gt0}
 
-pub returns-then-at-eq0 : goal.returns-then-at-eq0
-returns-then-at-eq0 c = put_inside c.put_text.ensures (omega arith)
-
-pub returns : goal.returns
-returns c = put_inside c.put_text-2.ensures (put_inside c.put_byte-next.ensures (omega arith))
+pub returns-clause-inside : goal.returns-clause-inside
+returns-clause-inside c =
+    puts_inside c.put_text.ensures
+    (elim c.if-at-gt0.branch [ then-at-gt0 w ↦ rw w.out-is (puts_inside w.put_byte.ensures c.requires) | else-at-gt0 w ↦ rw w.out-is c.requires ])

@@ -1,9 +1,6 @@
--- So many bytes are in the buffer, which keeps its length.
-use Rattle.std.proofs.Common.{◌≡◌, ◌-◌, ◌≤◌, length}
+-- The buffer keeps its length.
+use Rattle.std.proofs.Common.{◌≡◌, length}
 use Rattle.input.proofs.line.read_line.Given as goal
 
-abbrev pub invariant-loop-n : goal.invariant-loop-n
-invariant-loop-n g l = (l.n ≤ length l.buf) × (length l.buf ≡ length l.initial.buf)
-
-abbrev pub decreases-loop-n : goal.decreases-loop-n
-decreases-loop-n g l = length l.initial.buf - l.n
+abbrev pub invariant-loop-length : goal.invariant-loop-length
+invariant-loop-length g l = length l.buf ≡ length l.initial.buf

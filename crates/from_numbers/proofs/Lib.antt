@@ -1,0 +1,2 @@
+-- The files of this folder: lemmas of the proofs.
+pub mod Held
