@@ -1,6 +1,6 @@
 // Block check, search and reader, and the answer of a feed. They take log and place apart, as the library's functions do.
 use answer::Refusal;
-use console::{print_answer, print_checked};
+use console::{given_or_refused, print_checked};
 use record_text::print_fields;
 
 // The block check at a place.
@@ -31,13 +31,15 @@ fn print_part<R: Print>(rt: &R, part: &[u8]) {
 
 // The search from a place on: its place or refusal, and its part.
 pub fn find<R: Print>(rt: &R, log: &[u8], p: usize) {
-    print_answer(rt, search::find(log, p), |q| {
+    if let Some(q) = given_or_refused(rt, search::find(log, p)) {
         let _ = println!(rt; "found {q}");
-    });
+    }
     print_part(rt, search::find_part(log, p));
 }
 
 // The kind and every field of the block at a place.
 pub fn read<R: Print>(rt: &R, log: &[u8], p: usize) {
-    print_answer(rt, reader::read(log, p), |r| print_fields(rt, r));
+    if let Some(record) = given_or_refused(rt, reader::read(log, p)) {
+        print_fields(rt, record);
+    }
 }

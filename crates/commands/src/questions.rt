@@ -1,6 +1,6 @@
 // The answers to the questions for an orbit set, an almanac page and the UTC page.
 use answer::Refusal;
-use console::print_answer;
+use console::given_or_refused;
 use orbit_set::OrbitSet;
 use record::Record;
 use record_text::print_record;
@@ -13,10 +13,14 @@ fn print_records<R: Print>(rt: &R, set: OrbitSet) {
 
 // An orbit set is three lines.
 pub fn print_set<R: Print>(rt: &R, set: Result<OrbitSet, Refusal>) {
-    print_answer(rt, set, |given| print_records(rt, given));
+    if let Some(given) = given_or_refused(rt, set) {
+        print_records(rt, given);
+    }
 }
 
 // A page is one.
 pub fn print_page<R: Print>(rt: &R, page: Result<Record, Refusal>) {
-    print_answer(rt, page, |given| print_record(rt, given));
+    if let Some(given) = given_or_refused(rt, page) {
+        print_record(rt, given);
+    }
 }

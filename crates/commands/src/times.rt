@@ -2,7 +2,7 @@
 use accuracy::UserRangeAccuracy;
 use answer::Refusal;
 use clock::ClockTerms;
-use console::print_answer;
+use console::given_or_refused;
 use record::{Subframe1, UtcPage};
 use record_text::print_double;
 
@@ -16,7 +16,9 @@ fn print_terms<R: Print>(rt: &R, terms: ClockTerms) {
 // The clock terms of a subframe 1.
 pub fn print_clock<R: Print>(rt: &R, subframe1: Result<Subframe1, Refusal>) {
     let terms = subframe1.and_then(|given| clock::clock_terms(given));
-    print_answer(rt, terms, |given| print_terms(rt, given));
+    if let Some(given) = given_or_refused(rt, terms) {
+        print_terms(rt, given);
+    }
 }
 
 fn print_metres<R: Print>(rt: &R, accuracy: UserRangeAccuracy) {
@@ -31,7 +33,9 @@ fn print_metres<R: Print>(rt: &R, accuracy: UserRangeAccuracy) {
 // The accuracy of a subframe 1.
 pub fn print_accuracy<R: Print>(rt: &R, subframe1: Result<Subframe1, Refusal>) {
     let accuracy = subframe1.and_then(|given| accuracy::accuracy(given));
-    print_answer(rt, accuracy, |given| print_metres(rt, given));
+    if let Some(given) = given_or_refused(rt, accuracy) {
+        print_metres(rt, given);
+    }
 }
 
 // The largest number of 32 bits for a larger one.
@@ -46,7 +50,7 @@ pub fn print_time<R: Print>(rt: &R, page: Result<UtcPage, Refusal>, week: u64, s
         at_most_32_bits(week),
         at_most_32_bits(second),
     ));
-    print_answer(rt, time, |t| {
+    if let Some(t) = given_or_refused(rt, time) {
         let _ = println!(rt; "{:02}:{:02}:{:02}", t.hour, t.minute, t.second);
-    });
+    }
 }

@@ -1,4 +1,7 @@
 // What is printed of an answer. What cannot be printed is lost, and what follows is tried.
+ghost use Rattle.std.specs.Prelude.{◌≡◌};
+ghost use Rattle.std.specs.Result.{result_ok};
+
 use answer::Refusal;
 
 // Prints the line of a refusal: number, detail, and the condition in the words of documents 01 and 02.
@@ -8,23 +11,22 @@ pub fn print_refusal<R: Print>(rt: &R, refusal: Refusal) {
     let _ = println!(rt; "refused {number} {detail} {refusal}");
 }
 
-// Prints what is given, or the line of the refusal.
-pub fn print_answer<R: Print, T: Drop, F: FnOnce(T) + Drop>(
-    rt: &R,
-    answer: Result<T, Refusal>,
-    print: F,
-)
-    requires { F.IsAlwaysCallable print }
+// What is given. Where the call refuses, nothing is, and the line of the refusal is printed.
+pub fn given_or_refused<R: Print, T>(rt: &R, answer: Result<T, Refusal>) -> Option<T>
+    ensures { result ≡ result_ok answer }
 {
     match answer {
-        Ok(given) => print(given),
-        Err(refusal) => print_refusal(rt, refusal),
+        Ok(given) => Some(given),
+        Err(refusal) => {
+            print_refusal(rt, refusal);
+            None
+        }
     }
 }
 
 // Prints whether a call accepts, or the line of its refusal.
 pub fn print_checked<R: Print>(rt: &R, answer: Result<(), Refusal>) {
-    print_answer(rt, answer, |_| {
+    if given_or_refused(rt, answer).is_some() {
         let _ = println!(rt; "accepted");
-    });
+    }
 }

@@ -4,5 +4,5 @@
 mod answers;
 mod listing;
 
-pub use answers::{print_answer, print_checked, print_refusal};
+pub use answers::{given_or_refused, print_checked, print_refusal};
 pub use listing::print_listing;
