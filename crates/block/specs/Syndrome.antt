@@ -9,9 +9,5 @@ unfoldable pub has_word : List ℕ → ℕ → ℕ → Bool
 has_word s p k = (leb 1 k && leb k 10) && leb (p + (30 * k + 2)) (length s)
 
 -- the syndrome of that word, where it is there
-unfoldable pub word_syndrome : List ℕ → ℕ → ℕ → Option ℕ
-word_syndrome s p k = cond (has_word s p k) (Some (syndrome (window (bits_at s p) k))) None
-
--- the same as a number; 64, which is no six-bit number, where there is none
-unfoldable pub syndrome_at : List ℕ → ℕ → ℕ → ℕ
-syndrome_at s p k = cond (has_word s p k) (syndrome (window (bits_at s p) k)) 64
+unfoldable pub syndrome_at : List ℕ → ℕ → ℕ → Option ℕ
+syndrome_at s p k = cond (has_word s p k) (Some (syndrome (window (bits_at s p) k))) None

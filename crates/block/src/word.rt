@@ -1,13 +1,12 @@
 // The word check at a place of a log: the syndrome of a word of the block there.
-ghost use Rattle.std.specs.Prelude.{◌≡◌, unwrap_or};
-ghost use Rattle.block.specs.Syndrome.{word_syndrome, syndrome_at};
+ghost use Rattle.std.specs.Prelude.{◌≡◌};
+ghost use Rattle.block.specs.Syndrome.{syndrome_at};
 
 use crate::bounds::has_word;
 
 // The syndrome of word k, 1 to 10, of the block at place p of a log. None where that word is not there.
 pub fn syndrome_at(log: &[u8], p: usize, k: usize) -> Option<u32>
-    ensures word { result ≡ word_syndrome log.now p k }
-    ensures number { unwrap_or result 64 ≡ syndrome_at log.now p k }
+    ensures { result ≡ syndrome_at log.now p k }
 {
     if !has_word(log, p, k) {
         return None;

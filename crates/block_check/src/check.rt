@@ -1,7 +1,9 @@
 // The block check: accepted, or refused by the numbers 1 to 9 in the order of document 01's table.
-ghost use Rattle.std.specs.Prelude.{◌≡◌, ◌<◌, ◌≤◌, MatchOption};
+ghost use Rattle.std.specs.Prelude.{◌≡◌, ◌<◌, ◌≤◌, not, MatchOption};
 ghost use Rattle.bits.specs.Bits.{bits_at};
+ghost use Rattle.parity.specs.Word.{passes};
 ghost use Rattle.answer.specs.Answer.{answer_of};
+ghost use Rattle.block.specs.Block.{window};
 ghost use Rattle.block_check.specs.Check as Check;
 ghost use Rattle.block_check.specs.Check.{ends_alike, first_above, first_broken};
 
@@ -21,12 +23,21 @@ fn first_above(block: BlockAt) -> Option<usize>
     None
 }
 
+// Whether word k breaks the parity table.
+#[tactic(auto, using(block::specs::laws::Syndrome::zero_passes))]
+fn breaks(block: BlockAt, k: usize) -> bool
+    requires { (1 ≤ k) × (k ≤ 10) }
+    ensures { result ≡ not (passes (window (bits_at block.entry.log.now block.entry.place) k)) }
+{
+    block::syndrome_at(block.log, block.place, k) != Some(0)
+}
+
 // The block's first word that breaks the parity table.
 fn first_broken(block: BlockAt) -> Option<usize>
     ensures { MatchOption result (first_broken (bits_at block.entry.log.now block.entry.place) ≡ 11) (λ k. (k < 11) × (first_broken (bits_at block.entry.log.now block.entry.place) ≡ k)) }
 {
     for k in 1..=10 {
-        if !parity::word_passes(parity::packed_window(block.log, block.place + 30 * (k - 1))) {
+        if breaks(block, k) {
             return Some(k);
         }
     }

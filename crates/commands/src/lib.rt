@@ -3,6 +3,7 @@
 
 mod log;
 mod questions;
+mod syndrome;
 mod times;
 mod windows;
 

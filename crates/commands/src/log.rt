@@ -1,11 +1,19 @@
 // Block check, search and reader, and the answer of a feed. They take log and place apart, as the library's functions do.
+use crate::syndrome::Syndrome;
 use answer::Refusal;
-use console::{given_or_refused, print_checked};
+use console::{Refused, given_or_refused, print_checked};
 use record_text::print_fields;
 
-// The block check at a place.
+// The block check at a place. Behind a refusal by 5 stands the syndrome of the word that it names.
 pub fn check<R: Print>(rt: &R, log: &[u8], p: usize) {
-    print_checked(rt, block_check::check_block(log, p));
+    let answer = block_check::check_block(log, p);
+    if let Err(refusal @ Refusal::WordBroken(k)) = answer
+        && let Some(syndrome) = block::syndrome_at(log, p, k)
+    {
+        let _ = println!(rt; "{} {}", Refused(refusal), Syndrome(syndrome));
+        return;
+    }
+    print_checked(rt, answer);
 }
 
 // Prints `feed`, the place, the satellite and the answer.

@@ -1,21 +1,20 @@
-// The words of a block: whether each passes the parity table, and its source bits.
+// The words of a block: whether each passes the parity table, its source bits, and which equations failed.
+use crate::syndrome::Syndrome;
 use answer::Refusal;
 use console::print_refusal;
 use std::fmt;
 use std::fmt::{Display, Formatter};
 
-// A window's word: whether it passes, and its 24 source bits, the first first.
+// A window's word: whether it passes, its 24 source bits, the first first, and its syndrome.
 #[derive(Clone, Copy)]
 struct Window(u32);
 
 impl Display for Window {
     fn fmt<W: fmt::Write>(&self, f: &mut Formatter<W>) -> fmt::Result {
-        let passes = if parity::word_passes(self.0) {
-            "passes"
-        } else {
-            "fails"
-        };
-        write!(f, "{passes} {:024b}", parity::source_bits(self.0))
+        let syndrome = parity::syndrome_of(self.0);
+        let passes = if syndrome == 0 { "passes" } else { "fails" };
+        let source = parity::source_bits(self.0);
+        write!(f, "{passes} {source:024b} {}", Syndrome(syndrome))
     }
 }
 

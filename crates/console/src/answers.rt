@@ -3,12 +3,24 @@ ghost use Rattle.std.specs.Prelude.{◌≡◌};
 ghost use Rattle.std.specs.Result.{result_ok};
 
 use answer::Refusal;
+use std::fmt;
+use std::fmt::{Display, Formatter};
 
-// Prints the line of a refusal: number, detail, and the condition in the words of documents 01 and 02.
+// A refusal as it is printed: number, detail, and the condition in the words of documents 01 and 02.
+#[derive(Clone, Copy)]
+pub struct Refused(pub Refusal);
+
+impl Display for Refused {
+    fn fmt<W: fmt::Write>(&self, f: &mut Formatter<W>) -> fmt::Result {
+        let number = self.0.number();
+        let detail = self.0.detail();
+        write!(f, "refused {number} {detail} {}", self.0)
+    }
+}
+
+// Prints the line of a refusal.
 pub fn print_refusal<R: Print>(rt: &R, refusal: Refusal) {
-    let number = refusal.number();
-    let detail = refusal.detail();
-    let _ = println!(rt; "refused {number} {detail} {refusal}");
+    let _ = println!(rt; "{}", Refused(refusal));
 }
 
 // What is given. Where the call refuses, nothing is, and the line of the refusal is printed.

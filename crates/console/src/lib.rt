@@ -4,5 +4,5 @@
 mod answers;
 mod listing;
 
-pub use answers::{given_or_refused, print_checked, print_refusal};
+pub use answers::{Refused, given_or_refused, print_checked, print_refusal};
 pub use listing::print_listing;

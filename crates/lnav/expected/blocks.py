@@ -1,17 +1,19 @@
 # The block check and the search on 118 cases, each below its comment. Number and detail of the check are stated by hand
 # from document 01, case by case; so is what the search finds: the place itself where the block is accepted, else the
-# next accepted case of the log. Most cases stand one after the other in blocks.log. Those whose length or place matters
-# have a log of their own.
+# next accepted case of the log. The syndrome of a refusal 5 is stated by hand, or as that of the flipped bits, whose
+# columns second_way.py has by hand. Most cases stand one after the other in blocks.log. Those whose length or place
+# matters have a log of their own.
 import collections
 import paper
 from paper import GREATEST, MOST, bits_of, flipped, inverse, with_byte
+from second_way import sum_of_columns
 
 # Log is the name of the case's own log, or None: then the block, with the bits before it, is a part of blocks.log, and
-# the detail of 2 and 4 is counted from the block's place.
-Case = collections.namedtuple('Case', 'comment number detail bits log place')
+# the detail of 2 and 4 is counted from the block's place. Every refusal 5 has a syndrome.
+Case = collections.namedtuple('Case', 'comment number detail bits log place syndrome', defaults=[None])
 
 # Made blocks. Number and detail, start pair, and the 24 source bits of each word in hexadecimal; then the bits before
-# the block, and the index of a flipped bit.
+# the block, the index of a flipped bit, and the syndrome. Index 274 is bit 3 of word 10, index 111 is bit 20 of word 4.
 MADE = '''
 count 0
     0 0 00 8b2265 000047 d8f16a cd613e c386bb 1027c4 414c34 1e2feb 7ed4d5 c2ce6c
@@ -82,7 +84,7 @@ subframe number 4
 subframe number 5
     0 0 00 8b9201 181c95 a1da05 3bb427 d1272a d73c43 46fc88 7a9d96 a6e04b e158f8
 wrong preamble, and word 10 breaks the table
-    5 10 00 cb8768 181ca5 95f381 07158a d7e439 3ab434 e60d93 07a819 e1d6f9 639923 flip=274
+    5 10 00 cb8768 181ca5 95f381 07158a d7e439 3ab434 e60d93 07a819 e1d6f9 639923 flip=274 syndrome=111011
 wrong preamble, and word 2 ends in 11
     6 0 00 cb8c77 181ca5 c02373 21b8c2 bf4f7e 5728e6 dd7398 276fbc 493130 6e858d
 word 10 ends in 01, subframe number 0 and count 100,800
@@ -102,7 +104,7 @@ inverted: word 2 ends in 00
 inverted: word 10 ends in 10
     7 10 11 8b09de 181ca7 b23bc1 c33f45 24d8ce f59ba7 766883 5eb045 abf10a b2ccdc
 inverted: word 4, bit 20 flipped
-    5 4 11 8b6895 181cc4 8abead b39cfd dcae6e 1ddd21 2d39f5 612b6c 39a40d 4a2121 flip=111
+    5 4 11 8b6895 181cc4 8abead b39cfd dcae6e 1ddd21 2d39f5 612b6c 39a40d 4a2121 flip=111 syndrome=101100
 inverted: start pair 10
     4 0 11 8b4599 181ca6 7cef6a 41f60b 14f60b 4d9dff 56b73c 058721 128474 7bf833 before=11 flip=1
 '''
@@ -162,8 +164,12 @@ def made(text):
 def index_of(word, bit):
     return 30 * word - 29 + bit
 
-def packed(comment, number, detail, block, before=''):
-    return Case(comment, number, detail, bits_of(before) + block, None, len(before))
+# The syndrome of word k of a block that was accepted before these flips.
+def syndrome_after(k, flips):
+    return sum_of_columns(bit + 1 for word, bit in flips if word == k)
+
+def packed(comment, number, detail, block, before='', syndrome=None):
+    return Case(comment, number, detail, bits_of(before) + block, None, len(before), syndrome)
 
 def made_cases():
     lines = MADE.strip().splitlines()
@@ -172,13 +178,17 @@ def made_cases():
         options = dict(word.split('=') for word in words if '=' in word)
         block = made(' '.join(words[2:13]))
         flips = [int(options['flip'])] if 'flip' in options else []
-        yield packed(comment, int(words[0]), int(words[1]), flipped(block, *flips), options.get('before', ''))
+        yield packed(comment, int(words[0]), int(words[1]), flipped(block, *flips), options.get('before', ''),
+                     options.get('syndrome'))
+    # In the window of word 2 all bits but P and Q are flipped. With these two flipped as well it would pass. So the
+    # syndrome is that of P and Q: 101001 and 010101, joined by exclusive-or.
     half = made(HALF)
     half = half[:32] + inverse(half[32:])
-    yield packed('upright, but the last nine words inverted: word 2 breaks the table', 5, 2, half)
+    yield packed('upright, but the last nine words inverted: word 2 breaks the table', 5, 2, half, syndrome='111100')
     yield packed('the block of the next ten cases, whole', 0, 0, made(WHOLE))
     for word, bit in ONE_FLIP:
-        yield packed('word %d, bit %d flipped' % (word, bit), 5, word, flipped(made(WHOLE), index_of(word, bit)))
+        yield packed('word %d, bit %d flipped' % (word, bit), 5, word, flipped(made(WHOLE), index_of(word, bit)),
+                     syndrome=syndrome_after(word, [(word, bit)]))
 
 # Lengths and places, each with a log of its own.
 def size_cases():
@@ -234,9 +244,19 @@ def recorded_cases(recording):
     yield Case('inverted, place 1: the pair there is 10', 4, 1, inverse(two), inverted, 1)
     for comment, number, detail, before, flips in FLIPS:
         block = flipped(first, *(index_of(*flip) for flip in flips))
-        yield packed('recorded block, flipped: ' + comment, number, detail, block, before)
+        syndrome = syndrome_after(detail, flips) if number == 5 else None
+        yield packed('recorded block, flipped: ' + comment, number, detail, block, before, syndrome)
     block = flipped(inverse(first), index_of(8, 29), index_of(8, 30))
-    yield packed('recorded block inverted, flipped: word 8 bits 29 and 30', 5, 8, block)
+    yield packed('recorded block inverted, flipped: word 8 bits 29 and 30', 5, 8, block, syndrome='000011')
+
+# What the check says of a case whose block has this place.
+def checked(case, place):
+    if case.number == 0:
+        return 'accepted'
+    if case.number == 5:
+        return 'refused 5 %d a word breaks the table syndrome %s' % (case.detail, case.syndrome)
+    detail = case.detail + (0 if case.log or case.number not in (2, 4) else place)
+    return 'refused %d %d' % (case.number, detail)
 
 # The first stated place at or after a place with the block there, or the refusal with the empty part.
 def found(case, places, place):
@@ -259,7 +279,6 @@ def build(s):
         accepted[name] += [place] if case.number == 0 else []
     s.make('blocks.log', log)
     for case, name, place in placed:
-        detail = case.detail + (0 if case.log or case.number not in (2, 4) else place)
         s.comment(case.comment)
-        s.check(name, place, 'refused %d %d' % (case.number, detail) if case.number else 'accepted')
+        s.check(name, place, checked(case, place))
         s.find(name, place, found(case, accepted[name], place))

@@ -1,13 +1,14 @@
 # The nine logs of docs/COURSE.md: a file of commands for each, which the subject's own file runs. Stated by hand from
 # document 01: what is right of every block and every set, and what each wrong reader says otherwise. The script stops
 # where the right reader of readers.py says anything else than paper.py, where a wrong one says what is right, and where
-# docs/COURSE.md quotes what is not said (quotes.py).
+# docs/COURSE.md quotes what is not said (quotes.py), also of the subject support, or does not have its table.
 import course_logs
 import gpsdecode
 import paper
 import quotes
 import readers
 import subject
+import support
 from subject import agree, agrees
 
 # What is right of each log: the answer of the check at place 0; then of each block the place, the polarity, fields, and
@@ -86,7 +87,9 @@ MISTAKES = [
     ('RootAExtended', 'almanac', 'count 18012\ne 75265070\nroot_a -1593001521'),
     # The first three bits of af1, 2, are 000: 8 * 34.
     ('Af0Adjacent', 'almanac', 'sv_id 26\ne 40210\nroot_a 10554505\naf0 272\naf1 2'),
-    ('LastBitBeforeUnread', 'word-before', 'refused 5 2\n' + NONE_FOUND % (0, '5 2')),
+    # Word 2 has Q = 1. Taken as 0, it is as if Q were flipped: the equations of column Q fail.
+    ('LastBitBeforeUnread', 'word-before', 'refused 5 2 a word breaks the table syndrome 010101 equations 26 28 30\n'
+     + NONE_FOUND % (0, '5 2')),
     ('InvertedRefused', 'inverted', 'refused 4 0\n' + NONE_FOUND % (0, '4 0')),
     ('ThirdIssueUnread', 'cutover', 'feed 1200 5 accepted\n' + COUNTS % (18001, 18002, 17998)),
     ('NoIssueRead', 'cutover', 'feed 900 5 accepted\n' + COUNTS % (18001, 17997, 17998)),
@@ -147,7 +150,9 @@ def build(s):
         s.make(one.name + '.log', one.made[one.name + '.log'])
         s.make(one.name + '.txt', subject.text_of(one.commands))
         s.do('run %s.txt' % one.name, *one.output)
-    quotes.check_course(lessons.values(), wrong_outputs(lessons))
+    page = subject.Subject('support')
+    support.build(page)
+    quotes.check_course([*lessons.values(), page], wrong_outputs(lessons), support.table_lines())
 
 # The blocks of the logs, also those that are written.
 def compare():

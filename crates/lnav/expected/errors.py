@@ -25,6 +25,7 @@ class Errors(subject.Subject):
         self.recording(SV05)
         self.recording(M8T)
         self.make('example.log', logs.example())
+        self.make('garbage.log', logs.garbage(self.recordings[M8T])[0])
 
     # Commands of which each prints this message and nothing else. They are given one by one, or in a text, parted by |.
     def fail(self, message, *commands):
@@ -160,7 +161,7 @@ def changes(s):
     s.ask_held()
     s.flip(301)
     s.invert()
-    s.check('written', 0, 'refused 5 10')
+    s.check('written', 0, 'refused 5 10 a word breaks the table syndrome 000001 equations 30')
     s.comment('a number alone is for the field of its place, also after a name')
     page = s.write('utc', reserved=3, wnlsf=137)
     s.do('write utc wnlsf=137 3', *page)
@@ -186,13 +187,15 @@ def errors():
 CALLS = [
     lambda s: s.check(SV05, 0, 'accepted'),
     lambda s: s.check(SV05, 1, 'refused 4 1'),
+    lambda s: s.check('garbage.log', 1283, 'refused 5 4 a word breaks the table syndrome 000111 equations 28 29 30'),
     lambda s: s.find('example.log', 0, 'found 5\npart bytes=302 polarity=U subframe=1 count=0'),
     lambda s: s.find('example.log', 6, 'refused 10 6\npart bytes=0'),
     lambda s: s.list('example.log', 'place id count polarity\n5 1 0 U'),
     lambda s: s.read(SV05, 300, 'kind subframe1\ncount 17996'),
     lambda s: s.read('example.log', 6, 'refused 3 6'),
-    lambda s: s.words(SV05, 300, '1 passes\n10 passes'),
-    lambda s: s.word(bits_of(ZEROS), 'passes'),
+    lambda s: s.words(SV05, 300, subject.ten_words({})),
+    lambda s: s.word(bits_of(ZEROS), 'passes %s syndrome 000000' % ZEROS[:24]),
+    lambda s: s.word(bits_of(ZEROS[:31] + '1'), 'fails %s syndrome 000001 equations 30' % ZEROS[:24]),
     lambda s: s.write('subframe1', count=100799),
     lambda s: s.write('utc', inverted=True, **UTC),
     lambda s: s.write('almanac', sv_id=33, expect='refused 11 0'),

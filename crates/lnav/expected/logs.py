@@ -3,6 +3,7 @@
 import random
 import paper
 from paper import GREATEST, MOST, flipped, inverse, record_of, with_byte
+from subject import ten_words
 
 # Only random() is the same in every version of Python.
 def random_bits(source, size):
@@ -87,18 +88,18 @@ def build(s):
             s.make(name, log)
         search(s, name, places, [0] if name == 'overlap.log' else places)
 
+    # Index 100 of a block is bit 9 of word 4, which stands in the lines 28, 29 and 30.
     s.comment('the spoilt blocks of garbage.log: a flip in word 4, a byte 3')
     high = garbage_log.index(3)
-    s.check('garbage.log', flip, 'refused 5 4')
-    s.read('garbage.log', flip, 'refused 5 4')
-    s.words('garbage.log', flip, '1 passes\n2 passes\n3 passes\n4 fails\n5 passes\n10 passes')
+    s.check('garbage.log', flip, 'refused 5 4 a word breaks the table syndrome 000111 equations 28 29 30')
+    s.read('garbage.log', flip, 'refused 5 4 a word breaks the table')
+    s.words('garbage.log', flip, ten_words({4: '000111 equations 28 29 30'}))
     for ask in (s.check, s.read, s.words):
         ask('garbage.log', odd_byte, 'refused 2 %d' % high)
 
     s.comment('words before and after the start of a block, too few bytes, and too many')
-    ten = '\n'.join('%d passes' % k for k in range(1, 11))
-    s.words('ublox-2008-sv05.log', 300, ten)
-    s.words('ublox-2008-sv05-inverted.log', 300, ten)
+    s.words('ublox-2008-sv05.log', 300, ten_words({}))
+    s.words('ublox-2008-sv05-inverted.log', 300, ten_words({}))
     s.words('ublox-2008-sv05.log', 301)
     for ask in (s.check, s.read, s.words):
         ask('short.log', 0, 'refused 3 0')

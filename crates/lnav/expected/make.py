@@ -5,7 +5,8 @@
 #     errors.*, calls.*   what cannot be done, with its messages, and calls with one command (errors.py)
 # A subject is a module here, with _ for a - of its name. It has a function build, which is given a subject.Subject, and
 # perhaps a function compare, for gpsdecode. Needs Python 3.10. It stops where an answer is not the one that a subject
-# states by hand, and where docs/COURSE.md or README.md quotes what is not said (quotes.py).
+# states by hand, where docs/COURSE.md or README.md quotes what is not said (quotes.py), and where docs/COURSE.md does
+# not have the table of support.py.
 #     python3 make.py                makes these files
 #     python3 make.py --check        makes nothing; stops where a file is missing or is not what would be made, and
 #                                    where data/ has a file that no subject uses
@@ -22,7 +23,7 @@ import quotes
 import subject
 import words
 
-SUBJECTS = 'first-steps words blocks logs records round_trip season timing ranking course'.split()
+SUBJECTS = 'first-steps words blocks logs records round_trip season timing ranking support course'.split()
 HERE = os.path.dirname(os.path.abspath(__file__))
 CRATE = os.path.join(HERE, os.pardir)
 

@@ -1,5 +1,6 @@
-# Document 01 in Python: what is right, from received bits to records and back; questions.py has the rest. Written from
-# the paper, apart from the program's code. Bits are bytes of value 0 or 1. What document 01 refuses raises Refused.
+# Document 01 in Python: what is right, from received bits to records and back, with the syndrome of document 02's
+# request 2; questions.py has the rest. Written from the papers, apart from the program's code. Bits are bytes of value
+# 0 or 1. What document 01 refuses raises Refused.
 import collections
 import functools
 import itertools
@@ -120,9 +121,15 @@ def parity(pair, source):
 def source_of_word(window):
     return bytes(bit ^ window[1] for bit in window[2:26])
 
+# The six bits of document 02's request 2: the failures of equations 25 to 30. A bit is 1 where the received bit differs
+# from the exclusive-or that the table states.
 @functools.lru_cache(maxsize=None)
+def syndrome(window):
+    stated = parity(window[:2], source_of_word(window))
+    return bytes(bit ^ other for bit, other in zip(window[26:], stated))
+
 def passes(window):
-    return window[26:] == parity(window[:2], source_of_word(window))
+    return syndrome(window) == bytes(6)
 
 # The 30 received bits of a word, by the two bits before it and its 24 source bits.
 def word_of(pair, source):

@@ -8,7 +8,7 @@
 #     crates/reader/must-fail/q_not_undone.edit    the lines of an edit
 # The other lines are all that is printed or stands there, from the first to the last. A line `..` stands for lines that
 # are left out, and a word `..` for words; tabs are shown as blanks. The course has no other fenced block than quotes,
-# it quotes every wrong reader, and every edit that it names must exist.
+# it quotes every wrong reader, and every edit that it names must exist. It also has the table of support.py.
 import os
 import re
 from subject import Differs
@@ -87,8 +87,15 @@ def check(document, blocks, said):
             raise Differs('%s: below %s there does not stand\n%s' % (document, first, wrong_line))
     return [first for first, *_ in quotes]
 
-def check_course(lessons, wrong):
+# The lines of the table stand in the text, one below the other.
+def check_table(document, text, table):
+    wrong_line = first_wrong(['..', *table, '..'], text.splitlines())
+    if wrong_line is not None:
+        raise Differs('%s: in the table there does not stand\n%s' % (document, wrong_line))
+
+def check_course(lessons, wrong, table):
     text = text_of_file(COURSE)
+    check_table(COURSE, text, table)
     blocks = fenced_in(COURSE, text)
     if any(word != 'text' for word, _ in blocks):
         raise Differs('%s: a fenced block that is no quote' % COURSE)

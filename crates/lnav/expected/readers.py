@@ -1,9 +1,9 @@
 # The readers of the course. Each does the commands of a file as lnav would: one is right, and for each mistake of
-# docs/COURSE.md there is one that differs from it in one method. Written from document 01 apart from paper.py, of which
+# docs/COURSE.md there is one that differs from it in one method. Written from the papers apart from paper.py, of which
 # the table, the fields and the phrases are used. Every block is fed for one satellite, whoever sent it.
 import paper
 from paper import Record, Refused, digits, number, windows_of
-from subject import field_line, lines_of, record_line
+from subject import field_line, lines_of, record_line, syndrome_text
 
 # ---- the reader that is right
 
@@ -19,8 +19,13 @@ class Reader:
     def word_source(self, window):
         return bytes(bit ^ self.pair_before(window)[1] for bit in window[2:26])
 
+    # The failures of equations 25 to 30.
+    def word_syndrome(self, window):
+        parity = paper.parity(self.pair_before(window), self.word_source(window))
+        return bytes(int(parity[k] != window[26 + k]) for k in range(6))
+
     def word_passes(self, window):
-        return window[26:] == paper.parity(self.pair_before(window), self.word_source(window))
+        return 1 not in self.word_syndrome(window)
 
     # The 240 source bits of a block, each word by its own Q.
     def source(self, block):
@@ -116,8 +121,16 @@ class Reader:
 
     # ---- the commands
 
+    # A refusal 5 has the syndrome of the word that it names.
     def check_lines(self, log, place):
-        self.block_at(self.log_of(log), int(place))
+        bits, start = self.log_of(log), int(place)
+        try:
+            self.block_at(bits, start)
+        except Refused as refusal:
+            if refusal.number != 5:
+                raise
+            window = windows_of(bits[start:start + 302])[refusal.detail - 1]
+            return [str(refusal) + syndrome_text(self.word_syndrome(window))]
         return ['accepted']
 
     def list_lines(self, name):
@@ -135,10 +148,16 @@ class Reader:
         record = self.read(self.block_at(self.log_of(log), int(place)))
         return ['kind ' + record.kind] + [field_line(record, field) for field in paper.fields_of(record.kind)]
 
+    def word_line(self, window):
+        verdict = 'passes' if self.word_passes(window) else 'fails'
+        return verdict + ' ' + digits(self.word_source(window)) + syndrome_text(self.word_syndrome(window))
+
     def words_lines(self, log, place):
         windows = windows_of(self.log_of(log)[int(place):int(place) + 302])
-        return ['%d %s %s' % (k, 'passes' if self.word_passes(window) else 'fails', digits(self.word_source(window)))
-                for k, window in enumerate(windows, 1)]
+        return ['%d %s' % (k, self.word_line(window)) for k, window in enumerate(windows, 1)]
+
+    def word_lines(self, bits):
+        return [self.word_line(paper.bits_of(bits))]
 
     def feed_lines(self, log, place, satellite):
         def answer():

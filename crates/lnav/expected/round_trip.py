@@ -6,6 +6,7 @@ import gpsdecode
 import paper
 import records
 from paper import Record, inverse
+from subject import ten_words
 
 KINDS = list(paper.FIELDS)
 # The bits of a field of a width as a number, by the choice of values.
@@ -123,26 +124,32 @@ def recorded(s):
             if place in (0, 300, 600, 900):
                 changes(s, block)
 
-TEN_PASS = '\n'.join('%d passes' % k for k in range(1, 11))
+# Bits to flip: the refusal, the answer of the check, and the syndromes of the words that fail. Index 0 is P of word 1,
+# index 31 is bit 30 of word 1 and so Q of word 2, and index 301 is bit 30 of word 10.
+ONE_FLIP = [
+    (0, 'refused 4 0', '', {1: '101001 equations 25 27 30'}),
+    (31, 'refused 5 1', ' a word breaks the table syndrome 000001 equations 30',
+     {1: '000001 equations 30', 2: '010101 equations 26 28 30'}),
+    (301, 'refused 5 10', ' a word breaks the table syndrome 000001 equations 30', {10: '000001 equations 30'}),
+]
 
-# The written block, which is the inverse of a recorded one, turned over and with bits flipped. Index 0 is in the start
-# pair, index 31 is the last bit of word 1 and so in two windows, and index 301 is the last of word 10.
+# The written block, which is the inverse of a recorded one, turned over and with bits flipped.
 def changes(s, block):
     subframe, count = paper.subframe_and_count(block)
-    s.words('written', 0, TEN_PASS)
+    s.words('written', 0, ten_words({}))
     s.find('written', 0, 'found 0\npart bytes=302 polarity=I subframe=%d count=%d' % (subframe, count))
     s.find('written', 1, 'refused 10 1\npart bytes=0')
     s.check('written', 1, 'refused 3 1')
     s.invert(paper.digits(block))
-    s.words('written', 0, TEN_PASS)
+    s.words('written', 0, ten_words({}))
     s.find('written', 0, 'found 0\npart bytes=302 polarity=U subframe=%d count=%d' % (subframe, count))
     s.list('written', 'place id count polarity\n0 %d %d U' % (subframe, count))
-    for index, refusal in ((0, '4 0'), (31, '5 1'), (301, '5 10')):
+    for index, refusal, syndrome, failing in ONE_FLIP:
         s.flip(index)
-        s.check('written', 0, 'refused ' + refusal)
+        s.check('written', 0, refusal + syndrome)
         s.find('written', 0, 'refused 10 0\npart bytes=0')
-        s.words('written', 0)
-        s.read('written', 0, 'refused ' + refusal)
+        s.words('written', 0, ten_words(failing))
+        s.read('written', 0, refusal)
         s.flip(index, paper.digits(block))
     s.check('written', 0, 'accepted')
 

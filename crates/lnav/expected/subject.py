@@ -6,10 +6,12 @@
 # Every method but comment and do takes `expect`, the answer in words of the subject's own. Each line of it must agree
 # with a line of the answer, in order: the words without = are that line's first words, and those with = are among its
 # others. So 'refused 5 3' agrees with the whole refusal, and 'subframe1 count=18001' with a record that has that count.
-# Where they do not agree the script stops.
+# A word .. stands for any one word, so 'fails .. syndrome 000001' leaves the source bits out. Where they do not agree
+# the script stops. It also stops where paper.py and second_way.py differ in the syndrome of a word.
 import os
 import paper
 import questions
+import second_way
 from paper import Refused
 
 DATA = os.path.join(os.path.dirname(os.path.abspath(__file__)), os.pardir, 'data')
@@ -25,14 +27,21 @@ def text_of(lines):
     return ''.join(line + '\n' for line in lines).encode()
 
 def agrees(stated, line):
-    words = stated.split()
+    words, others = stated.split(), line.split()
     first = [word for word in words if '=' not in word]
-    return line.split()[:len(first)] == first and set(words) <= set(line.split())
+    if len(first) > len(others) or any(word not in ('..', other) for word, other in zip(first, others)):
+        return False
+    return {word for word in words if '=' in word} <= set(others)
 
 # Whether each stated line agrees with a line of the answer, in order.
 def agree(stated, answer):
     lines = iter(answer)
     return all(any(agrees(line, other) for other in lines) for line in stated)
+
+# The ten lines of `words`, as far as they are stated: these words fail with these syndromes, and the others pass.
+def ten_words(failing):
+    return '\n'.join('%d fails .. syndrome %s' % (k, failing[k]) if k in failing else '%d passes .. syndrome 000000' % k
+                     for k in range(1, 11))
 
 # The answer of a function, or the line of its refusal.
 def lines_of(answer):
@@ -59,8 +68,30 @@ def field_line(record, field):
         return line
     return '%s %s %s' % (line, questions.decimal(questions.scaled(record, field)), field.unit)
 
+# The words for the six bits of a syndrome, with the numbers of the equations that failed.
+def syndrome_text(bits):
+    failed = [' %d' % equation for equation, bit in enumerate(bits, 25) if bit]
+    return ' syndrome ' + paper.digits(bits) + (' equations' + ''.join(failed) if failed else '')
+
+# The same of a window, worked out two ways.
+def syndrome_of(window):
+    bits = paper.syndrome(window)
+    assert second_way.syndrome_by_columns(window) == paper.digits(bits), paper.digits(window)
+    return syndrome_text(bits)
+
 def word_line(window):
-    return '%s %s' % ('passes' if paper.passes(window) else 'fails', paper.digits(paper.source_of_word(window)))
+    verdict = 'passes' if paper.passes(window) else 'fails'
+    return '%s %s%s' % (verdict, paper.digits(paper.source_of_word(window)), syndrome_of(window))
+
+# The block check. A refusal 5 has the syndrome of the word that its detail names.
+def check_line(log, place):
+    try:
+        paper.block_at(log, place)
+    except Refused as refusal:
+        if refusal.number != 5:
+            return str(refusal)
+        return str(refusal) + syndrome_of(paper.windows_of(log[place:place + 302])[refusal.detail - 1])
+    return 'accepted'
 
 def clock_lines(record):
     return ['%s %s %s %s' % (name, questions.decimal(value), unit, questions.pattern(value))
@@ -122,10 +153,7 @@ class Subject:
     # ---- commands about a log
 
     def check(self, log, place, expect=None):
-        def answer():
-            paper.block_at(self.log(log), place)
-            return ['accepted']
-        return self.answer('check %s %d' % (log, place), lines_of(answer), expect)
+        return self.answer('check %s %d' % (log, place), [check_line(self.log(log), place)], expect)
 
     # The part of the log that is found has a line of its own. It is empty where the search is refused.
     def find(self, log, place, expect=None):

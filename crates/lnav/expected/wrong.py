@@ -1,7 +1,7 @@
 # Does the commands of a file as lnav would with one of the mistakes of docs/COURSE.md. Run in data/:
 #     python3 ../expected/wrong.py READER FILE
-# For example RowCleared course-health.txt. It knows the commands of the course's files: check, list, words, read, feed,
-# set and forget.
+# For example RowCleared course-health.txt. It knows the commands of the course's files: check, list, words, word, read,
+# feed, set and forget.
 import argparse
 import sys
 

@@ -7,8 +7,8 @@ use Rattle.bits.specs.laws.Places.{bits_at-later}
 use Rattle.bits.proofs.laws.Xor.{odd_only}
 use Rattle.bits.proofs.laws.Pack.{pack-equal, unpack-pack}
 use Rattle.bits.proofs.laws.Parts.{pack_part}
-use Rattle.parity.specs.Word.{source_bit, source_bits, syndrome, passes}
-use Rattle.parity.specs.laws.Local.{syndrome_local, syndrome_packed, passes_local, passes_packed}
+use Rattle.parity.specs.Word.{source_bit, source_bits, syndrome}
+use Rattle.parity.specs.laws.Local.{syndrome_local, syndrome_packed}
 use Rattle.block.specs.Block.{window, field}
 
 module _ (s : List ℕ) (p k : ℕ) where
@@ -21,9 +21,6 @@ module _ (s : List ℕ) (p k : ℕ) where
 
   pub syndrome-at : syndrome (unpack 32 packed_at) ≡ syndrome (window (bits_at s p) k)
   syndrome-at = syndrome_packed (bits_at s (p + 30 * (k - 1))) ∙ syndrome_local (bits_at s (p + 30 * (k - 1))) (window (bits_at s p) k) window_at
-
-  pub passes_at : passes (unpack 32 packed_at) ≡ passes (window (bits_at s p) k)
-  passes_at = passes_packed (bits_at s (p + 30 * (k - 1))) ∙ passes_local (bits_at s (p + 30 * (k - 1))) (window (bits_at s p) k) window_at
 
   digit : (j : ℕ) → j < 32 → unpack 32 packed_at j % 2 ≡ window (bits_at s p) k j % 2
   digit j h = ap (λ (n : ℕ). n % 2) (unpack-pack 32 (bits_at s (p + 30 * (k - 1))) j h) ∙ omega (arith, window_at j h)

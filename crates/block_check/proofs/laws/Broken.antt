@@ -1,12 +1,12 @@
 -- Laws. A refusal by 5 names the first word whose syndrome is not 0.
-use Rattle.std.specs.Prelude.{◌≡◌, refl, true, false, List, length}
+use Rattle.std.specs.Prelude.{◌≡◌, refl, true, false, Some, List, length}
 use Rattle.std.proofs.Common.{sym, ap, subst, ◌∙◌, arith, ltb-true, ltb-false}
 use Rattle.std.proofs.Math.Bool.{Bool, not}
 use Prim.Native.Nat.{ℕ, ◌+◌, ◌<◌, ◌≤◌}
 use Rattle.std.proofs.lemmas.Bool.{not-true, not-false}
 use Rattle.bits.specs.Bits.{bits_at}
 use Rattle.finite.specs.laws.First.{first-from, first_taken, first-before}
-use Rattle.parity.specs.Word.{passes}
+use Rattle.parity.specs.Word.{syndrome, passes}
 use Rattle.parity.specs.laws.Equations.{syndrome_lt, passes-syndrome, fails_syndrome}
 use Rattle.answer.specs.Answer.{Answer, refused, refuse_if, detail}
 use Rattle.answer.specs.laws.Lines.{refused_not, line_other}
@@ -16,13 +16,15 @@ use Rattle.block.specs.laws.Syndrome.{syndrome_in_block}
 use Rattle.block_check.specs.Check as Check
 use Rattle.block_check.specs.Check.{first_broken}
 
--- word k of the block at place p of the log s is the first that breaks the parity table
+-- word k of the block at place p of the log s is the first that breaks the parity table, and has this number
 pub record BreaksFirst (s : List ℕ) (p k : ℕ) : Type 0 where
   pub first : 1 ≤ k
   pub last : k ≤ 10
-  pub broken : syndrome_at s p k ≡ 0 → ⊥
-  pub six_bits : syndrome_at s p k < 64
-  pub before : (j : ℕ) → 1 ≤ j → j < k → syndrome_at s p j ≡ 0
+  pub number : ℕ
+  pub given : syndrome_at s p k ≡ Some number
+  pub broken : number ≡ 0 → ⊥
+  pub six_bits : number < 64
+  pub before : (j : ℕ) → 1 ≤ j → j < k → syndrome_at s p j ≡ Some 0
 
 -- ---- the first word that breaks the table, where the block has its bytes
 
@@ -32,14 +34,15 @@ module _ (s : List ℕ) (p : ℕ) (room : p + 302 ≤ length s) where
   at_first bound =
       let k : ℕ = first_broken (bits_at s p) in
       let low : 1 ≤ k = first-from breaks 1 10 in
-      let here = syndrome_in_block s p k room low (omega arith) in
       record {
         first = low;
         last = omega arith;
-        broken = λ z. (fails_syndrome (window (bits_at s p) k)).0 (not-true _ (first_taken breaks 1 10 bound)) (sym here ∙ z);
-        six_bits = omega (arith, here, syndrome_lt (window (bits_at s p) k));
+        number = syndrome (window (bits_at s p) k);
+        given = syndrome_in_block s p k room low (omega arith);
+        broken = (fails_syndrome (window (bits_at s p) k)).0 (not-true _ (first_taken breaks 1 10 bound));
+        six_bits = syndrome_lt (window (bits_at s p) k);
         before = λ j l h. syndrome_in_block s p j room l (omega arith)
-            ∙ (passes-syndrome (window (bits_at s p) j)).0 (not-false _ (first-before breaks 1 10 j l (omega arith) h));
+            ∙ ap (λ (n : ℕ). Some n) ((passes-syndrome (window (bits_at s p) j)).0 (not-false _ (first-before breaks 1 10 j l (omega arith) h)));
       }
     where
       breaks : ℕ → Bool

@@ -88,6 +88,3 @@ module _ (u v : Window) (same : Same 32 u v) where
 -- the window may be packed first
 pub syndrome_packed : (w : Window) → syndrome (unpack 32 (pack 32 w)) ≡ syndrome w
 syndrome_packed w = syndrome_local (unpack 32 (pack 32 w)) w (λ j h. rw (unpack-pack 32 w j h) (omega arith))
-
-pub passes_packed : (w : Window) → passes (unpack 32 (pack 32 w)) ≡ passes w
-passes_packed w = passes_local (unpack 32 (pack 32 w)) w (λ j h. rw (unpack-pack 32 w j h) (omega arith))
