@@ -24,12 +24,11 @@ fn first_above(block: BlockAt) -> Option<usize>
 }
 
 // Whether word k breaks the parity table.
-#[tactic(auto, using(block::specs::laws::Syndrome::zero_passes))]
 fn breaks(block: BlockAt, k: usize) -> bool
     requires { (1 ≤ k) × (k ≤ 10) }
     ensures { result ≡ not (passes (window (bits_at block.entry.log.now block.entry.place) k)) }
 {
-    block::syndrome_at(block.log, block.place, k) != Some(0)
+    parity::syndrome_of(parity::packed_window(block.log, block.place + 30 * (k - 1))) != 0
 }
 
 // The block's first word that breaks the parity table.

@@ -19,8 +19,13 @@ module _ (s : List ℕ) (p k : ℕ) where
   window_at : Same 32 (bits_at s (p + 30 * (k - 1))) (window (bits_at s p) k)
   window_at j h = ap (λ (x : ℕ). x % 2) (bits_at-later s p (30 * (k - 1)) j)
 
-  pub syndrome-at : syndrome (unpack 32 packed_at) ≡ syndrome (window (bits_at s p) k)
-  syndrome-at = syndrome_packed (bits_at s (p + 30 * (k - 1))) ∙ syndrome_local (bits_at s (p + 30 * (k - 1))) (window (bits_at s p) k) window_at
+  -- the number n of the packed window w
+  pub syndrome-at : {w n : ℕ} → n ≡ syndrome (unpack 32 w) → w ≡ packed_at → n ≡ syndrome (window (bits_at s p) k)
+  syndrome-at e q =
+      e
+      ∙ ap (λ (x : ℕ). syndrome (unpack 32 x)) q
+      ∙ syndrome_packed (bits_at s (p + 30 * (k - 1)))
+      ∙ syndrome_local (bits_at s (p + 30 * (k - 1))) (window (bits_at s p) k) window_at
 
   digit : (j : ℕ) → j < 32 → unpack 32 packed_at j % 2 ≡ window (bits_at s p) k j % 2
   digit j h = ap (λ (n : ℕ). n % 2) (unpack-pack 32 (bits_at s (p + 30 * (k - 1))) j h) ∙ omega (arith, window_at j h)

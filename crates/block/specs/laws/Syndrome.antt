@@ -1,12 +1,11 @@
 -- Laws. Which words are left at a place of a log, and their syndromes.
 use Rattle.std.specs.Prelude.{◌≡◌, true, false, Some, None, ◌&&◌, List, ℕ, ◌+◌, ◌*◌, ◌≤◌, length}
-use Rattle.std.specs.Option.{option_eq}
-use Rattle.std.proofs.Common.{nat_eq, arith}
+use Rattle.std.proofs.Common.{arith}
 use borrow.Author.Tests.{leb-true, le-leb}
 use Rattle.std.proofs.Math.Dec.{leb}
 use Rattle.bits.specs.Bits.{bits_at}
 use Rattle.finite.specs.laws.Booleans.{and_true}
-use Rattle.parity.specs.Word.{syndrome, passes}
+use Rattle.parity.specs.Word.{syndrome}
 use Rattle.block.specs.Block.{window}
 use Rattle.block.specs.Syndrome.{has_word, syndrome_at}
 
@@ -39,8 +38,3 @@ module _ (s : List ℕ) (p k : ℕ) where
   -- where the block has its 302 bytes, it has its ten words
   pub syndrome_in_block : p + 302 ≤ length s → 1 ≤ k → k ≤ 10 → syndrome_at s p k ≡ Some (syndrome (window (bits_at s p) k))
   syndrome_in_block room l h = syndrome_left (word_there (record { first = l; last = h; room = omega arith }))
-
-  -- and a word of it passes exactly where its number is 0
-  pub zero_passes : p + 302 ≤ length s → 1 ≤ k → k ≤ 10 → option_eq nat_eq (syndrome_at s p k) (Some 0) ≡ passes (window (bits_at s p) k)
-  unfolding passes
-  zero_passes room l h = rw (syndrome_in_block room l h)

@@ -1,8 +1,6 @@
 -- `syndrome_at` meets its contract.
 use Rattle.std.specs.Prelude.{ℕ, Some}
 use Rattle.std.proofs.Common.{sym, ap, ◌∙◌, arith}
-use Rattle.bits.specs.Bits.{unpack}
-use Rattle.parity.specs.Word.{syndrome}
 use Rattle.block.specs.laws.Packed.{syndrome-at}
 use Rattle.block.specs.laws.Syndrome.{WordLeft, word_left, syndrome_left, syndrome_none}
 use Rattle.block.proofs.word.syndrome_at.Goals as goal
@@ -25,5 +23,5 @@ returns-then-not-has_word c = sym (syndrome_none c.args.log.now c.args.p c.args.
 
 pub returns : goal.returns
 returns c =
-    let number = c.syndrome_of.ensures.number ∙ ap (λ (w : ℕ). syndrome (unpack 32 w)) c.packed_window-window.ensures ∙ syndrome-at c.args.log.now c.args.p c.args.k in
+    let number = syndrome-at c.args.log.now c.args.p c.args.k c.syndrome_of.ensures.number c.packed_window-window.ensures in
     ap (λ (n : ℕ). Some n) number ∙ sym (syndrome_left c.args.log.now c.args.p c.args.k (sym c.if-not-has_word.ensures))
