@@ -24,6 +24,7 @@ fn first_above(block: BlockAt) -> Option<usize>
 }
 
 // Whether word k breaks the parity table.
+#[tactic(auto, using(block::specs::laws::Packed::packed_syndrome), unfolding(parity::specs::Word::passes))]
 fn breaks(block: BlockAt, k: usize) -> bool
     requires { (1 ≤ k) × (k ≤ 10) }
     ensures { result ≡ not (passes (window (bits_at block.entry.log.now block.entry.place) k)) }

@@ -18,7 +18,6 @@ impl Display for Refused {
     }
 }
 
-// Prints the line of a refusal.
 pub fn print_refusal<R: Print>(rt: &R, refusal: Refusal) {
     let _ = println!(rt; "{}", Refused(refusal));
 }

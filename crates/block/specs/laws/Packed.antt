@@ -19,9 +19,9 @@ module _ (s : List ℕ) (p k : ℕ) where
   window_at : Same 32 (bits_at s (p + 30 * (k - 1))) (window (bits_at s p) k)
   window_at j h = ap (λ (x : ℕ). x % 2) (bits_at-later s p (30 * (k - 1)) j)
 
-  -- the number n of the packed window w
-  pub syndrome-at : {w n : ℕ} → n ≡ syndrome (unpack 32 w) → w ≡ packed_at → n ≡ syndrome (window (bits_at s p) k)
-  syndrome-at e q =
+  -- the syndrome n of the packed window w is that of the block's word
+  pub packed_syndrome : (w n : ℕ) → n ≡ syndrome (unpack 32 w) → w ≡ packed_at → n ≡ syndrome (window (bits_at s p) k)
+  packed_syndrome w n e q =
       e
       ∙ ap (λ (x : ℕ). syndrome (unpack 32 x)) q
       ∙ syndrome_packed (bits_at s (p + 30 * (k - 1)))

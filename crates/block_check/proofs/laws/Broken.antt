@@ -16,7 +16,7 @@ use Rattle.block.specs.laws.Syndrome.{syndrome_in_block}
 use Rattle.block_check.specs.Check as Check
 use Rattle.block_check.specs.Check.{first_broken}
 
--- word k of the block at place p of the log s is the first that breaks the parity table, and has this number
+-- word k of the block at place p of the log s is the first that breaks the parity table; its syndrome is number
 pub record BreaksFirst (s : List ℕ) (p k : ℕ) : Type 0 where
   pub first : 1 ≤ k
   pub last : k ≤ 10
