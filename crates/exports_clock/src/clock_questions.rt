@@ -68,18 +68,14 @@ impl From<Result<UserRangeAccuracy, Refusal>> for LnavRangeAccuracy {
 
     #[tactic(auto, unfolding(crate::specs::Told::accuracy_told, crate::specs::Told::is_predicted, crate::specs::Told::metres, crate::specs::Told::plus_zero, told::specs::Told::told, answer::specs::Answer::number, answer::specs::Answer::detail, answer::specs::Answer::from_value))]
     fn from(accuracy: Result<UserRangeAccuracy, Refusal>) -> LnavRangeAccuracy {
-        let answer = LnavAnswer::from(accuracy);
-        match accuracy {
-            Ok(UserRangeAccuracy::Metres(length)) => LnavRangeAccuracy {
-                answer,
-                predicted: true,
-                metres: length,
-            },
-            _ => LnavRangeAccuracy {
-                answer,
-                predicted: false,
-                metres: 0.0,
-            },
+        let (predicted, length) = match accuracy {
+            Ok(UserRangeAccuracy::Metres(length)) => (true, length),
+            _ => (false, 0.0),
+        };
+        LnavRangeAccuracy {
+            answer: LnavAnswer::from(accuracy),
+            predicted,
+            metres: length,
         }
     }
 }

@@ -96,7 +96,7 @@ fn text() -> &'static str {
 }
 
 pub(crate) fn print_help<R: Print>(rt: &R) -> io::Result<()> {
-    rt.print(text())
+    rt.write_all(text().as_bytes())
 }
 
 impl OnLog {

@@ -18,10 +18,11 @@ pub(crate) enum Source {
     Opened(File),
 }
 
-// Open inputs, eight at most and with no heap, of which the last is read.
+// Open inputs, eight at most and with no heap, of which the last is read; and the one that ended with the line that is being done.
 #[derive(Drop)]
 pub(crate) struct Inputs {
     sources: ArrayVec<Source, 8>,
+    ended: Option<Source>,
 }
 
 // Reads a line of an input.
@@ -42,26 +43,31 @@ impl Inputs {
     pub(crate) fn new(first: Source) -> Self {
         let mut sources = ArrayVec::new();
         sources.push(first);
-        Inputs { sources }
+        Inputs {
+            sources,
+            ended: None,
+        }
     }
 
-    // Reads a line of the last input. At its end it is closed, and the one before it goes on.
+    // Closes the input that ended with the line before, and reads a line of the last one. At its end the one before it goes on.
     pub(crate) fn next_line<R: Env + Input>(&mut self, rt: &R, buf: &mut [u8]) -> Option<Line>
         ensures { IfSome result (λ line. IsPrefixLen line.length buf.new) }
     {
+        self.ended = None;
         let line = line_of(rt, self.sources.last_mut()?, buf);
         if line.end == LineEnd::End {
-            let _ = self.sources.pop();
+            self.ended = self.sources.pop();
         }
         Some(line)
     }
 
-    // Opens the file with this name: its lines are done before those that are left.
+    // Opens the file with this name: its lines are done before those that are left. An input that ended with this line is closed before.
     pub(crate) fn run<R: Files<File = File>>(
         &mut self,
         rt: &R,
         name: &[u8],
     ) -> Result<(), Problem> {
+        self.ended = None;
         if self.sources.is_full() {
             return Err(Problem::TooManyFiles);
         }

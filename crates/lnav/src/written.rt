@@ -14,10 +14,11 @@ struct Digits([u8; 302]);
 
 impl Display for Digits {
     fn fmt<W: fmt::Write>(&self, f: &mut Formatter<W>) -> fmt::Result {
-        for bit in &self.0 {
-            write!(f, "{bit}")?;
+        let mut digits = self.0;
+        for digit in &mut digits {
+            *digit = digit.wrapping_add(b'0');
         }
-        Ok(())
+        f.write_str(str::from_utf8(&digits).unwrap_or("?"))
     }
 }
 
@@ -65,8 +66,11 @@ impl<'a, R: Print> Session<'a, R> {
 
     // Swaps 0 and 1 in the block.
     pub(crate) fn invert(&mut self, line: &[u8]) -> Result<(), Problem> {
-        let bits = self.changed(line)?;
-        self.hold(bits.map(other_bit));
+        let mut bits = self.changed(line)?;
+        for bit in &mut bits {
+            *bit = other_bit(*bit);
+        }
+        self.hold(bits);
         Ok(())
     }
 

@@ -1,6 +1,7 @@
 // Numbers that are no whole ones, as exact decimals.
 ghost use Rattle.std.specs.Prelude.{◌<◌};
 
+use integers::absolute;
 use std::fmt;
 use std::fmt::{Display, Formatter};
 
@@ -43,8 +44,8 @@ pub(crate) struct Scaled {
 
 impl Display for Scaled {
     fn fmt<W: fmt::Write>(&self, f: &mut Formatter<W>) -> fmt::Result {
-        let size = self.number.unsigned_abs();
-        let factor = self.scale.unsigned_abs();
+        let size = absolute(self.number);
+        let factor = absolute(self.scale);
         if self.number < 0 {
             f.write_str("-")?;
         }

@@ -1,5 +1,5 @@
 -- By the rule of the table's entries.
-use Rattle.std.proofs.Common.{◌≡◌, sym, ap, ◌∙◌, ℕ, ltb, ltb-true, List, length, map, get_or}
+use Rattle.std.proofs.Common.{◌≡◌, sym, ap, ◌∙◌, ℕ, ltb, ltb-true, List, length, map, get_or, arith}
 use Rattle.std.specs.Prelude.{Float, Option, Some, None, is_some, option_copied, IfSome}
 use denote.Bor.{Bor}
 use Rattle.accuracy.specs.Accuracy.{tenths, nearest_tenths, accuracy_for}
@@ -17,7 +17,10 @@ looked_up xs ura (Some x) e t h =
     rw within (ap Some (h ∙ mapped_at nearest_tenths xs tenths x.now 0 e ura (ltb-true ura 15 within)))
 
 pub returns-in-Some : goal.returns-in-Some
-returns-in-Some c = looked_up c.metres_table.result c.args.ura (Some c.in-Some.metres) c.metres_table.ensures c.in-Some.ensures.lookup.0 c.in-Some.ensures.lookup.1
+returns-in-Some c =
+    looked_up c.metres_table.result _ (Some c.in-Some.metres) c.metres_table.ensures c.in-Some.ensures.lookup.0 c.in-Some.ensures.lookup.1
+    ∙ ap accuracy_for (omega arith)
 
 pub returns-in-None : goal.returns-in-None
-returns-in-None c = looked_up c.metres_table.result c.args.ura None c.metres_table.ensures c.in-None.ensures.lookup.0 c.in-None.ensures.lookup.1
+returns-in-None c =
+    looked_up c.metres_table.result _ None c.metres_table.ensures c.in-None.ensures.lookup.0 c.in-None.ensures.lookup.1 ∙ ap accuracy_for (omega arith)

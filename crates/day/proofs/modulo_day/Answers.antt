@@ -1,6 +1,6 @@
 -- `modulo_day` meets its contract.
 use Rattle.std.specs.Prelude.{◌≡◌, refl, ℤ, pos, negsuc}
-use Rattle.std.proofs.Common.{ap, ◌∙◌, w64, rules}
+use Rattle.std.proofs.Common.{ap, ◌∙◌, w64, arith, rules}
 use Rattle.std.proofs.Math.IntN.{nat_abs}
 use Rattle.std.specs.Int.{int_rem_euclid}
 use Rattle.std.proofs.lemmas.Int.{to_z-of_z}
@@ -14,8 +14,6 @@ euclid (negsuc n) = refl
 
 pub returns : goal.returns
 returns c =
-    ap nat_abs
-    (to_z-of_z w64 c.rem_euclid.result (search rules)
-    ∙ c.rem_euclid.ensures.value
-    ∙ ap (λ (z : ℤ). int_rem_euclid z (pos 86400)) (to_z-of_z w64 c.args.t c.ranges.t)
-    ∙ euclid c.args.t)
+    let same = ap (λ (z : ℤ). int_rem_euclid z (pos 86400)) (to_z-of_z w64 c.args.t c.ranges.t) in
+    let value = ap nat_abs (to_z-of_z w64 c.rem_euclid.result (search rules) ∙ c.rem_euclid.ensures.value ∙ same ∙ euclid c.args.t) in
+    omega arith

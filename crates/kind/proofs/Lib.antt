@@ -1,0 +1,2 @@
+-- The files of this folder: laws about the definitions of this crate.
+pub mod laws
