@@ -49,7 +49,7 @@ impl Inputs {
         }
     }
 
-    // Closes the input that ended with the line before, and reads a line of the last one. At its end the one before it goes on.
+    // Closes the input that ended with the previous line, and reads a line of the last one. At its end the one before it goes on.
     pub(crate) fn next_line<R: Env + Input>(&mut self, rt: &R, buf: &mut [u8]) -> Option<Line>
         ensures { IfSome result (λ line. IsPrefixLen line.length buf.new) }
     {
@@ -61,7 +61,7 @@ impl Inputs {
         Some(line)
     }
 
-    // Opens the file with this name: its lines are done before those that are left. An input that ended with this line is closed before.
+    // Opens the file with this name: its lines are done before those that are left. An input that ended with this line is closed first.
     pub(crate) fn run<R: Files<File = File>>(
         &mut self,
         rt: &R,

@@ -8,7 +8,7 @@ use console::print_refusal;
 use std::fmt;
 use std::fmt::{Display, Formatter};
 
-// The bits of a block as digits.
+// The bits of a block as digits. They are 0 and 1, so that the digits are text.
 #[derive(Clone, Copy)]
 struct Digits([u8; 302]);
 

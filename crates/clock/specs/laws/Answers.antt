@@ -6,4 +6,4 @@ use Rattle.clock.specs.Terms as Terms
 
 pub terms_by_number : (r : Subframe1) → ByNumber (Terms.clock_terms r)
 unfolding Terms.clock_terms
-terms_by_number r = line_by_number _ 10 _ _ (accepted_by_number _)
+terms_by_number r = line_by_number _ _ _ _ (accepted_by_number _)

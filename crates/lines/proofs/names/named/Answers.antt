@@ -8,7 +8,7 @@ use Rattle.lines.proofs.laws.Words.{IsNamed, named_number, named_by_cases}
 use Rattle.lines.proofs.names.named.Goals as goal
 use Rattle.lines.proofs.names.named.Goals.{After-find}
 
--- the same up to a count that the range's end is
+-- what holds up to the range's end holds up to a count that equals it
 up_to : (t n : List ℕ) (f end count : ℕ) (r : Option ℕ) → IsNamed t n f end r → end ≡ count → IsNamed t n f count r
 up_to t n f end count r h e = subst (λ (k : ℕ). IsNamed t n f k r) e h
 
