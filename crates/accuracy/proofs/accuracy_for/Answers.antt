@@ -1,4 +1,4 @@
--- By the rule of the table's entries.
+-- By the rule of the table's entries: what is looked up stands at the URA index.
 use Rattle.std.proofs.Common.{◌≡◌, sym, ap, ◌∙◌, ℕ, ltb, ltb-true, List, length, map, get_or, arith}
 use Rattle.std.specs.Prelude.{Float, Option, Some, None, is_some, option_copied, IfSome}
 use denote.Bor.{Bor}

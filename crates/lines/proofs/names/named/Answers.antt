@@ -1,6 +1,5 @@
 -- `named` meets its contract: the range's first number whose line has the name.
-use Rattle.std.proofs.Common.{◌≡◌, ℕ, ◌+◌, List, true, false, subst, arith, rules}
-use Rattle.std.specs.Prelude.{Option}
+use Rattle.std.proofs.Common.{◌≡◌, ℕ, ◌+◌, true, false, subst, arith, rules}
 use borrow.Author.Tests.{tests}
 use Rattle.std.proofs.lemmas.Iterator.{first_from_Range}
 use Rattle.lines.specs.Words as Words
@@ -8,18 +7,14 @@ use Rattle.lines.proofs.laws.Words.{IsNamed, named_number, named_by_cases}
 use Rattle.lines.proofs.names.named.Goals as goal
 use Rattle.lines.proofs.names.named.Goals.{After-find}
 
--- what holds up to the range's end holds up to a count that equals it
-up_to : (t n : List ℕ) (f end count : ℕ) (r : Option ℕ) → IsNamed t n f end r → end ≡ count → IsNamed t n f count r
-up_to t n f end count r h e = subst (λ (k : ℕ). IsNamed t n f k r) e h
-
+-- the range ends at the count
 found : (c : After-find) → IsNamed c.args.table.now c.args.name.now c.args.first c.args.count c.find.result
 found c =
-    up_to c.args.table.now c.args.name.now c.args.first _ c.args.count c.find.result
+    subst (λ (k : ℕ). IsNamed c.args.table.now c.args.name.now c.args.first k c.find.result) (omega arith)
     (first_from_Range _ _ _ _
     (λ k. Words.same (Words.name_at c.args.table.now (c.args.first + k)) c.args.name.now ≡ true)
     (λ k. Words.same (Words.name_at c.args.table.now (c.args.first + k)) c.args.name.now ≡ false)
     c.find.ensures.ran (λ x q k. search (rules, tests)) (λ x q k. search (rules, tests)))
-    (omega arith)
 
 pub returns-clause-line : goal.returns-clause-line
 returns-clause-line c = named_by_cases c.args.table.now c.args.name.now c.args.first c.args.count c.find.result (found c)
